@@ -1,0 +1,68 @@
+-- The verdict on bytes: the problem that they are, or the first fault with its number, place and layer. Assumes nothing.
+use mathlib.Core.Bool.{Bool, true, false, cond}
+use mathlib.Core.List.{List, [], _∷_, map}
+use Prim.Native.Nat.{ℕ, _+_}
+use lib.Dec.{leb}
+use lib.ListN.{length}
+use Rattle.std.specs.declared.option.Option.{Option}
+use Rattle.std.specs.declared.option.Option.the-variants.{None, Some}
+use Rattle.std.specs.declared.result.Result.{Result}
+use Rattle.std.specs.declared.result.Result.the-variants.{Ok, Err}
+use Rattle.syntax.specs.declared.faults.Fault.{Fault}
+use Rattle.syntax.specs.declared.faults.Reason.the-variants.{NoValue, BadTerm}
+use Rattle.syntax.specs.Faults.{fault}
+use Rattle.syntax.specs.Terms.{Term}
+use Rattle.syntax.specs.Typing.{Sig}
+use Rattle.syntax.specs.Least.{least-of}
+use Rattle.syntax.specs.Problems.{Function, Problem, bool, concat, encode-type, encode-unknown, empty-problem}
+use Rattle.records.specs.Raw.{Raw, Raw-function, write-function, write-goal}
+use Rattle.records.specs.Reading.{and-then, records}
+use Rattle.terms.specs.Reading.{reading}
+
+-- what the records declare, with Bool
+abbrev pub sig-in : Raw → Sig
+sig-in r = record { types = bool ∷ r .types; functions = map (λ f. f .profile) (r .functions); unknowns = r .unknowns }
+
+-- the places at which the function records, the unknown records and the goal records start
+abbrev pub functions-at : Raw → ℕ
+functions-at r = length (concat encode-type (r .types))
+
+abbrev pub unknowns-at : Raw → ℕ
+unknowns-at r = functions-at r + length (concat write-function (r .functions))
+
+abbrev pub goals-at : Raw → ℕ
+goals-at r = unknowns-at r + length (concat encode-unknown (r .unknowns))
+
+-- The first type whose values are all deeper than 8, if it has any, at its mark. The type number is t, and p the place of its record.
+abbrev pub deep-from : Sig → ℕ → List (List (List ℕ)) → ℕ → Option ℕ
+deep-from sig t [] p = None
+deep-from sig t (cs ∷ ts) p = cond (leb (least-of sig t) 8) (deep-from sig (t + 1) ts (p + length (encode-type cs))) (Some p)
+
+abbrev pub deep : Raw → Option ℕ
+deep r = deep-from (sig-in r) 1 (r .types) 0
+
+abbrev pub term-in : Result Term ℕ → Result Term Fault
+term-in (Ok t) = Ok t
+term-in (Err p) = Err (fault BadTerm p)
+
+-- The bodies, from the function record at p on. A body stands after its mark, the parameters, the result and its length.
+abbrev pub body-at : Raw-function → ℕ → ℕ
+body-at f p = p + (6 + length (f .profile .params))
+
+abbrev pub bodies-in : Sig → List Raw-function → ℕ → Result (List Function) Fault
+bodies-in sig [] p = Ok []
+bodies-in sig (f ∷ fs) p =
+    and-then (term-in (reading sig (f .profile .params) (f .profile .result) (body-at f p) (f .body))) (λ t.
+    and-then (bodies-in sig fs (p + length (write-function f))) (λ gs. Ok (record { profile = f .profile; body = t } ∷ gs)))
+
+-- the goals, from the goal record at p on
+abbrev pub goals-in : Sig → List (List ℕ) → ℕ → Result (List Term) Fault
+goals-in sig [] p = Ok []
+goals-in sig (g ∷ gs) p =
+    and-then (term-in (reading sig [] 0 (p + 4) g)) (λ t. and-then (goals-in sig gs (p + length (write-goal g))) (λ ts. Ok (t ∷ ts)))
+
+abbrev pub terms-in : Raw → Result Problem Fault
+terms-in r =
+    and-then (bodies-in (sig-in r) (r .functions) (functions-at r)) (λ fs.
+    and-then (goals-in (sig-in r) (r .goals) (goals-at r)) (λ gs.
+    Ok (record { types = r .types; functions = fs; unknowns = r .unknowns; goals = gs })))
