@@ -1,3 +1,7 @@
 pub mod Raw
 pub mod Reading
 pub mod Examples
+pub mod Next
+pub mod Readers
+pub mod Handed
+pub mod Tabled

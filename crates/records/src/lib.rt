@@ -1,1 +1,5 @@
 // Reads the records of a problem.
+pub mod next;
+pub mod parts;
+pub mod reader;
+pub mod tables;

@@ -1,0 +1,127 @@
+// The next record of each kind, in the format's order. A refusal leaves the reader as it was.
+ghost use mathlib.Core.Path.{_≡_};
+ghost use mathlib.Core.Bool.{true, false};
+ghost use mathlib.Core.List.{_++_, _∷_};
+ghost use Prim.Native.Nat.{ℕ, _+_, _≤_, _<_};
+ghost use lib.ListN.{length};
+ghost use Rattle.std.specs.Vec.{made};
+ghost use Rattle.syntax.specs.Problems.{encode-type, encode-unknown};
+ghost use Rattle.records.specs.Raw.{write-function, write-goal};
+ghost use Rattle.records.specs.Reading.{type-of, function-of, byte-of, part-of, end-of};
+ghost use Rattle.records.specs.Next.{next};
+ghost use Rattle.records.specs.Readers.{ahead-of, Takes, Hands, Enters};
+ghost use Rattle.records.specs.Handed.{cases-held, function-held, Type-held, Function-held, Goal-held};
+use crate::reader::FunctionRecord;
+use crate::reader::GoalRecord;
+use crate::reader::Reader;
+use crate::reader::TypeRecord;
+use crate::reader::UnknownRecord;
+use syntax::faults::Fault;
+use syntax::faults::Reason;
+
+// The most constructors that a type may have.
+const MOST_CONSTRUCTORS: u8 = 16;
+
+impl<'a> Reader<'a> {
+    // Passes the mark, if it stands here. With room for no more records, it is one too many.
+    fn enter(&mut self, high: u8, low: u8, room: usize) -> Result<bool, Fault>
+        ensures { λ r. ⌜ Enters (now (self .entry)) high low room (now (self .exit)) r ⌝ }
+    {
+        if !self.starts(high, low) {
+            return Ok(false);
+        }
+        if room == 0 {
+            return Err(Reason::BadCount.at(self.at));
+        }
+        self.at += 2;
+        Ok(true)
+    }
+
+    // The next type record; `room` is how many more there may be.
+    pub fn next_type(&mut self, room: usize) -> Result<Option<TypeRecord<'a>>, Fault>
+        ensures { λ r. ⌜ Hands (next type-of 0x44 0x54 room (ahead-of (now (self .entry))) (now (self .entry) .at)) cases-held encode-type (Type-held (now (self .entry) .at)) (now (self .entry)) (now (self .exit)) r ⌝ }
+    {
+        let at = self.at;
+        let mut inside = *self;
+        if !inside.enter(0x44, 0x54, room)? {
+            return Ok(None);
+        }
+        let place = inside.at;
+        let count = inside.byte(at)?;
+        if count == 0 || count > MOST_CONSTRUCTORS {
+            return Err(Reason::BadCount.at(place));
+        }
+        let constructors = inside.lists(at, count)?;
+        *self = inside;
+        Ok(Some(TypeRecord {
+            at,
+            count,
+            constructors,
+        }))
+    }
+
+    // The next function record.
+    pub fn next_function(&mut self, room: usize) -> Result<Option<FunctionRecord<'a>>, Fault>
+        ensures { λ r. ⌜ Hands (next function-of 0x46 0x4E room (ahead-of (now (self .entry))) (now (self .entry) .at)) function-held write-function (Function-held (now (self .entry) .at)) (now (self .entry)) (now (self .exit)) r ⌝ }
+    {
+        let at = self.at;
+        let mut inside = *self;
+        if !inside.enter(0x46, 0x4E, room)? {
+            return Ok(None);
+        }
+        let params = inside.list(at)?;
+        let result = inside.byte(at)?;
+        let body = inside.part(at)?;
+        let start = inside.at - body.len();
+        *self = inside;
+        Ok(Some(FunctionRecord {
+            at,
+            params,
+            result,
+            start,
+            body,
+        }))
+    }
+
+    // The next unknown record.
+    pub fn next_unknown(&mut self, room: usize) -> Result<Option<UnknownRecord>, Fault>
+        ensures { λ r. ⌜ Hands (next byte-of 0x55 0x4B room (ahead-of (now (self .entry))) (now (self .entry) .at)) (λ x. x .ty) encode-unknown (λ x. x .at ≡ now (self .entry) .at) (now (self .entry)) (now (self .exit)) r ⌝ }
+    {
+        let at = self.at;
+        let mut inside = *self;
+        if !inside.enter(0x55, 0x4B, room)? {
+            return Ok(None);
+        }
+        let ty = inside.byte(at)?;
+        *self = inside;
+        Ok(Some(UnknownRecord { at, ty }))
+    }
+
+    // The next goal record.
+    pub fn next_goal(&mut self, room: usize) -> Result<Option<GoalRecord<'a>>, Fault>
+        ensures { λ r. ⌜ Hands (next part-of 0x47 0x4C room (ahead-of (now (self .entry))) (now (self .entry) .at)) (λ x. x .term .now) write-goal (Goal-held (now (self .entry) .at)) (now (self .entry)) (now (self .exit)) r ⌝ }
+    {
+        let at = self.at;
+        let mut inside = *self;
+        if !inside.enter(0x47, 0x4C, room)? {
+            return Ok(None);
+        }
+        let term = inside.part(at)?;
+        let start = inside.at - term.len();
+        *self = inside;
+        Ok(Some(GoalRecord { at, start, term }))
+    }
+
+    // The end record, and nothing after it.
+    pub fn end(&self) -> Result<(), Fault>
+        ensures { λ r. ⌜ r ≡ end-of tt (ahead-of (now (self .entry))) (now (self .entry) .at) ⌝ }
+    {
+        if !self.starts(0x45, 0x4E) {
+            return Err(Reason::NoMark.at(self.at));
+        }
+        if self.bytes.len() - self.at > 2 {
+            return Err(Reason::BytesAfter.at(self.at + 2));
+        }
+        Ok(())
+    }
+}
