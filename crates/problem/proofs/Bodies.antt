@@ -11,10 +11,11 @@ use Rattle.syntax.specs.Typing.{Sig, Profile, HasType}
 use Rattle.syntax.specs.Problems.{Function, Problem, Each, concat, encode-list, encode-part, encode-function, encode-goal, Lawful-goal}
 use Rattle.records.specs.Raw.{Raw, Raw-function, write-function, write-goal}
 use Rattle.records.specs.Reading.{and-then}
+use Rattle.records.specs.Tabled.{body-at, term-at}
 use Rattle.terms.specs.Reading.{reading}
 use Rattle.terms.specs.Verdicts.{ReadsTerms}
 use Rattle.terms.proofs.Verdicts.{reading-is-exact}
-use Rattle.problem.specs.Verdict.{term-in, body-at, bodies-in, goals-in}
+use Rattle.problem.specs.Verdict.{term-in, bodies-in, goals-in}
 use Rattle.problem.proofs.Results.{was-ok, then-ok, term-was}
 
 abbrev pub Typed-body : Sig → Function → Type 0
@@ -48,9 +49,9 @@ bodies-sound sig [] p fs e =
     let q : [] ≡ fs = cc in
     subst (Are-bodies sig []) q (record { profiles = refl; bytes = refl; long = refl; typed = tt })
 bodies-sound sig (r ∷ rs) p fs e =
-    let one = was-ok (term-in (reading sig (r .profile .params) (r .profile .result) (body-at r p) (r .body))) _ e in
+    let one = was-ok (term-in (reading sig (r .profile .params) (r .profile .result) (body-at p r) (r .body))) _ e in
     let two = was-ok (bodies-in sig rs (p + length (write-function r))) _ (one .2) in
-    let has = reading-is-exact sig (r .profile .params) (r .profile .result) (body-at r p) (r .body) (one .0) .sound (term-was _ (one .1)) in
+    let has = reading-is-exact sig (r .profile .params) (r .profile .result) (body-at p r) (r .body) (one .0) .sound (term-was _ (one .1)) in
     let last = two .2 in
     let q : (with-body r (one .0) ∷ two .0) ≡ fs = cc in
     subst (Are-bodies sig (r ∷ rs)) q (one-more sig r rs (one .0) (two .0) (has .0) (has .1) (bodies-sound sig rs _ (two .0) (two .1)))
@@ -84,9 +85,9 @@ goals-sound sig [] p gs e =
     let q : [] ≡ gs = cc in
     subst (Are-goals sig []) q (record { bytes = refl; long = refl; typed = tt })
 goals-sound sig (r ∷ rs) p gs e =
-    let one = was-ok (term-in (reading sig [] 0 (p + 4) r)) _ e in
+    let one = was-ok (term-in (reading sig [] 0 (term-at p r) r)) _ e in
     let two = was-ok (goals-in sig rs (p + length (write-goal r))) _ (one .2) in
-    let has = reading-is-exact sig [] 0 (p + 4) r (one .0) .sound (term-was _ (one .1)) in
+    let has = reading-is-exact sig [] 0 (term-at p r) r (one .0) .sound (term-was _ (one .1)) in
     let last = two .2 in
     let q : (one .0 ∷ two .0) ≡ gs = cc in
     subst (Are-goals sig (r ∷ rs)) q (goal-more sig r rs (one .0) (two .0) (has .0) (has .1) (goals-sound sig rs _ (two .0) (two .1)))

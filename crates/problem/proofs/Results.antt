@@ -1,6 +1,5 @@
 -- What came before where a chain of readings came to its end. A chain that ends well had each of its links end well.
 use mathlib.Core.Path.{_≡_, refl, sym, _∙_, ap}
-use mathlib.Core.Logic.{absurd}
 use Prim.Native.Nat.{ℕ}
 use native.Mathlib.Omega.{arith}
 use Rattle.std.specs.declared.result.Result.{Result}

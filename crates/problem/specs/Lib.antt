@@ -1,3 +1,3 @@
 pub mod Verdict
-pub mod Exact
-pub mod Layout
+
+

@@ -17,21 +17,8 @@ use Rattle.syntax.specs.Least.{least-of}
 use Rattle.syntax.specs.Problems.{Function, Problem, bool, concat, encode-type, encode-unknown, empty-problem}
 use Rattle.records.specs.Raw.{Raw, Raw-function, write-function, write-goal}
 use Rattle.records.specs.Reading.{and-then, records}
+use Rattle.records.specs.Tabled.{declared-by, functions-start, goals-start, body-at, term-at}
 use Rattle.terms.specs.Reading.{reading}
-
--- what the records declare, with Bool
-abbrev pub sig-in : Raw → Sig
-sig-in r = record { types = bool ∷ r .types; functions = map (λ f. f .profile) (r .functions); unknowns = r .unknowns }
-
--- the places at which the function records, the unknown records and the goal records start
-abbrev pub functions-at : Raw → ℕ
-functions-at r = length (concat encode-type (r .types))
-
-abbrev pub unknowns-at : Raw → ℕ
-unknowns-at r = functions-at r + length (concat write-function (r .functions))
-
-abbrev pub goals-at : Raw → ℕ
-goals-at r = unknowns-at r + length (concat encode-unknown (r .unknowns))
 
 -- The first type whose values are all deeper than 8, if it has any, at its mark. The type number is t, and p the place of its record.
 abbrev pub deep-from : Sig → ℕ → List (List (List ℕ)) → ℕ → Option ℕ
@@ -39,30 +26,27 @@ deep-from sig t [] p = None
 deep-from sig t (cs ∷ ts) p = cond (leb (least-of sig t) 8) (deep-from sig (t + 1) ts (p + length (encode-type cs))) (Some p)
 
 abbrev pub deep : Raw → Option ℕ
-deep r = deep-from (sig-in r) 1 (r .types) 0
+deep r = deep-from (declared-by r) 1 (r .types) 0
 
 abbrev pub term-in : Result Term ℕ → Result Term Fault
 term-in (Ok t) = Ok t
 term-in (Err p) = Err (fault BadTerm p)
 
--- The bodies, from the function record at p on. A body stands after its mark, the parameters, the result and its length.
-abbrev pub body-at : Raw-function → ℕ → ℕ
-body-at f p = p + (6 + length (f .profile .params))
-
+-- the bodies, from the function record at p on
 abbrev pub bodies-in : Sig → List Raw-function → ℕ → Result (List Function) Fault
 bodies-in sig [] p = Ok []
 bodies-in sig (f ∷ fs) p =
-    and-then (term-in (reading sig (f .profile .params) (f .profile .result) (body-at f p) (f .body))) (λ t.
+    and-then (term-in (reading sig (f .profile .params) (f .profile .result) (body-at p f) (f .body))) (λ t.
     and-then (bodies-in sig fs (p + length (write-function f))) (λ gs. Ok (record { profile = f .profile; body = t } ∷ gs)))
 
 -- the goals, from the goal record at p on
 abbrev pub goals-in : Sig → List (List ℕ) → ℕ → Result (List Term) Fault
 goals-in sig [] p = Ok []
 goals-in sig (g ∷ gs) p =
-    and-then (term-in (reading sig [] 0 (p + 4) g)) (λ t. and-then (goals-in sig gs (p + length (write-goal g))) (λ ts. Ok (t ∷ ts)))
+    and-then (term-in (reading sig [] 0 (term-at p g) g)) (λ t. and-then (goals-in sig gs (p + length (write-goal g))) (λ ts. Ok (t ∷ ts)))
 
 abbrev pub terms-in : Raw → Result Problem Fault
 terms-in r =
-    and-then (bodies-in (sig-in r) (r .functions) (functions-at r)) (λ fs.
-    and-then (goals-in (sig-in r) (r .goals) (goals-at r)) (λ gs.
+    and-then (bodies-in (declared-by r) (r .functions) (functions-start r)) (λ fs.
+    and-then (goals-in (declared-by r) (r .goals) (goals-start r)) (λ gs.
     Ok (record { types = r .types; functions = fs; unknowns = r .unknowns; goals = gs })))
