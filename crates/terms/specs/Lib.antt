@@ -1,0 +1,4 @@
+pub mod Reading
+pub mod Tasks
+pub mod Verdicts
+pub mod Examples
