@@ -1,5 +1,5 @@
 -- Entries of the tables of declarations stand for the types and constructors that are declared. Assumes nothing.
-use mathlib.Core.Path.{_≡_, refl, sym, ap, _∙_}
+use mathlib.Core.Path.{_≡_, refl, ap, _∙_}
 use mathlib.Core.List.{List, [], _∷_, map}
 use Prim.Native.Nat.{ℕ, zero, suc, _≤_, _<_, min}
 use native.Mathlib.Omega.{arith}
@@ -7,9 +7,7 @@ use lib.ListN.{length, getD, take}
 use Rattle.std.proofs.shelf.Lists.{length-map, length-take, getD-map, getD-take, getD-past}
 use Rattle.syntax.specs.declared.tables.TypeList.{TypeList}
 use Rattle.syntax.specs.declared.tables.Datatype.{Datatype}
-use Rattle.syntax.specs.declared.tables.Signature.{Signature}
-use Rattle.syntax.specs.Tables.{listed, cases-in, declared-in}
-use Rattle.syntax.specs.Typing.{cases-of}
+use Rattle.syntax.specs.Tables.{listed, cases-in}
 
 -- what a read past the end of a table gives
 abbrev pub no-types : TypeList

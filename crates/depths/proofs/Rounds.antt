@@ -3,21 +3,21 @@
 use mathlib.Core.Path.{_≡_, refl, sym, ap, _∙_, subst}
 use mathlib.Core.Bool.{cond}
 use mathlib.Core.List.{List, [], _∷_}
-use mathlib.Core.Logic.{_⊎_, inl, inr, ⊎-elim}
-use Prim.Native.Nat.{ℕ, zero, suc, _<_, _≤_, _+_, min, max}
+use mathlib.Core.Logic.{⊎-elim}
+use Prim.Native.Nat.{ℕ, _<_, _≤_, _+_, min}
 use lib.Dec.{ltb}
 use lib.ListN.{length, getD, set}
 use native.Mathlib.Omega.{arith}
 use Rattle.std.proofs.shelf.Lists.{getD-set-same, getD-set-other, length-set, getD-past}
 use Rattle.std.proofs.shelf.Tests.{lt-ltb, le-ltb, cases-eq, cases-lt, cond-both}
-use Rattle.std.specs.Options.{Cases}
 use Rattle.std.specs.declared.option.Option.{Option}
 use Rattle.std.specs.declared.option.Option.the-variants.{Some, None}
-use Rattle.syntax.specs.Typing.{Sig, Declared, cases-of, constructors, arguments}
+use Rattle.syntax.specs.Typing.{Sig, Declared, constructors, arguments}
 use Rattle.syntax.specs.Values.{Value, Values, build, v[], _v∷_, OfType, of-type, OfTypes, of[], _of∷_, cost, depth, deepest, Shallow}
 use Rattle.syntax.specs.Least.{least-of, greatest, need-of}
-use Rattle.depths.specs.Tables.{Leasts, First-without, depth-at, need-by, Easiest, Known}
-use Rattle.depths.proofs.Search.{cost-some}
+use Rattle.depths.specs.Needs.{depth-at, need-by, Easiest}
+use Rattle.depths.specs.Least.{Leasts, First-without, First-unknown, Known}
+use Rattle.depths.proofs.Finding.{cost-some}
 use Rattle.depths.proofs.Leasts.{least-is-least, least-low, none-less, low-least}
 
 pub depth-in : (least : List ℕ) (t : ℕ) → t < length least → depth-at least t ≡ min (getD least t 0) 9
@@ -176,9 +176,7 @@ leasts sig least long known =
 
 -- the first type of no known depth is the first without a value
 pub first-without : (sig : Sig) (least : List ℕ) → Leasts sig least → (r : Option ℕ)
-    → Cases r ((u : ℕ) → u < length least → getD least u 0 ≤ 8)
-    (λ t. (t < length least) × (8 < getD least t 0) × ((u : ℕ) → u < t → getD least u 0 ≤ 8))
-    → First-without sig r
+    → First-unknown least r → First-without sig r
 first-without sig least L r f = go r f
   where
     has : (t : ℕ) → Declared sig t → getD least t 0 ≤ 8 → Shallow sig t 8
@@ -190,10 +188,7 @@ first-without sig least L r f = go r f
         let l = low-least sig t s in
         omega (arith, e, l, high)
 
-    go : (o : Option ℕ)
-        → Cases o ((u : ℕ) → u < length least → getD least u 0 ≤ 8)
-        (λ t. (t < length least) × (8 < getD least t 0) × ((u : ℕ) → u < t → getD least u 0 ≤ 8))
-        → First-without sig o
+    go : (o : Option ℕ) → First-unknown least o → First-without sig o
     go None all = λ t d. let long = L .long in has t d (all t (omega (arith, long, d)))
     go (Some t) q =
         let long = L .long in

@@ -1,10 +1,9 @@
 // The least depth of each type's values.
 ghost use mathlib.Core.Path.{_≡_};
-ghost use Prim.Native.Nat.{ℕ, _+_, _≤_, _<_};
-ghost use lib.ListN.{length, getD};
-ghost use Rattle.std.specs.Options.{Cases as BySome};
+ghost use Prim.Native.Nat.{ℕ, _+_};
+ghost use lib.ListN.{length};
 ghost use Rattle.syntax.specs.Tables.{declared-in};
-ghost use Rattle.depths.specs.Tables.{Leasts, First-without, Known};
+ghost use Rattle.depths.specs.Least.{Leasts, First-without, First-unknown, Known};
 use crate::needs::UNKNOWN;
 use crate::needs::easiest;
 use syntax::tables::Signature;
@@ -21,7 +20,7 @@ fn round(sig: Signature, least: &mut [u8])
 
 // The first type of which no value is known.
 fn first_unknown(least: &[u8]) -> Option<usize>
-    ensures { λ r. ⌜ BySome r ((u : ℕ) → u < length (now (least .entry)) → getD (now (least .entry)) u 0 ≤ 8) (λ t. (t < length (now (least .entry))) × (8 < getD (now (least .entry)) t 0) × ((u : ℕ) → u < t → getD (now (least .entry)) u 0 ≤ 8)) ⌝ }
+    ensures { λ r. ⌜ First-unknown (now (least .entry)) r ⌝ }
 {
     for (t, d) in least.iter().enumerate() {
         if *d >= UNKNOWN {

@@ -4,7 +4,8 @@ ghost use Prim.Native.Nat.{ℕ, _≤_, _<_};
 ghost use lib.ListN.{length, getD};
 ghost use Rattle.syntax.specs.Tables.{listed, cases-in, declared-in};
 ghost use Rattle.syntax.specs.Least.{greatest, need-of};
-ghost use Rattle.depths.specs.Tables.{Leasts, depth-at, need-by, need-in, Easiest, Filled};
+ghost use Rattle.depths.specs.Needs.{depth-at, need-by, need-in, Easiest, Filled};
+ghost use Rattle.depths.specs.Least.{Leasts};
 use syntax::tables::Datatype;
 use syntax::tables::Signature;
 use syntax::tables::TypeList;
@@ -12,6 +13,7 @@ use syntax::tables::TypeList;
 // Stands in a table for a type of which no value is known.
 pub(crate) const UNKNOWN: u8 = 9;
 
+// The least depth of a type, as far as it is known.
 fn depth_at(least: &[u8], t: u8) -> u8
     ensures { λ r. ⌜ r ≡ depth-at (now (least .entry)) t ⌝ }
 {
@@ -22,6 +24,7 @@ fn depth_at(least: &[u8], t: u8) -> u8
     }
 }
 
+// The greatest least depth among some types.
 fn deepest_of(least: &[u8], types: &[u8]) -> u8
     ensures is { λ r. ⌜ r ≡ greatest (depth-at (now (least .entry))) (now (types .entry)) ⌝ }
     ensures low { λ r. ⌜ r ≤ 9 ⌝ }
@@ -47,6 +50,7 @@ fn constructors(d: Datatype) -> u8
     d.count.min(16)
 }
 
+// What the constructor `c` of a type needs; a constant's need for a constructor that the type does not have.
 fn need_in(least: &[u8], d: Datatype, c: u8) -> u8
     ensures is { λ r. ⌜ r ≡ need-in (now (least .entry)) (cases-in d) c ⌝ }
     ensures low { λ r. ⌜ r ≤ 10 ⌝ }
@@ -70,6 +74,7 @@ pub(crate) fn easiest(least: &[u8], d: Datatype) -> u8
     easiest
 }
 
+// What a constructor needs, by the number of its type.
 fn need_at(sig: Signature, least: &[u8], t: usize, c: u8) -> u8
     ensures { λ r. ⌜ r ≡ need-by (declared-in (sig .entry)) (now (least .entry)) t c ⌝ }
 {
@@ -80,7 +85,7 @@ fn need_at(sig: Signature, least: &[u8], t: usize, c: u8) -> u8
     }
 }
 
-// What the constructor `c` of the type `t` needs.
+// What the constructor `c` of the type `t` needs, right where the table of least depths is.
 pub fn need(sig: Signature, least: &[u8], t: u8, c: u8) -> u8
     ensures by { λ r. ⌜ r ≡ need-by (declared-in (sig .entry)) (now (least .entry)) t c ⌝ }
     ensures is { λ r. ⌜ (Leasts (declared-in (sig .entry)) (now (least .entry)) → r ≡ need-of (declared-in (sig .entry)) t c) ⌝ }
@@ -88,6 +93,7 @@ pub fn need(sig: Signature, least: &[u8], t: u8, c: u8) -> u8
     need_at(sig, least, t as usize, c)
 }
 
+// One row of the table of needs.
 fn needs_of(sig: Signature, least: &[u8], t: usize) -> [u8; 16]
     ensures { λ r. ⌜ ((c : ℕ) → c < 16 → getD r c 0 ≡ need-by (declared-in (sig .entry)) (now (least .entry)) t c) ⌝ }
 {

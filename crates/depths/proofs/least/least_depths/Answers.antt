@@ -1,10 +1,9 @@
-use mathlib.Core.Path.{_≡_, sym, ap, _∙_, subst}
-use Prim.Native.Nat.{ℕ, _<_}
+use mathlib.Core.Path.{_≡_, ap, _∙_, subst}
 use lib.ListN.{length, getD, replicate}
 use native.Mathlib.Omega.{arith}
 use Rattle.std.proofs.shelf.Lists.{getD-replicate, length-map}
 use Rattle.syntax.specs.Tables.{declared-in}
-use Rattle.depths.specs.Tables.{Known, Leasts}
+use Rattle.depths.specs.Least.{Known, Leasts}
 use Rattle.depths.proofs.Rounds.{unknown-all, leasts, first-without}
 use Rattle.depths.proofs.least.least_depths.Needs as need
 

@@ -1,5 +1,5 @@
 use Rattle.syntax.specs.Tables.{declared-in}
-use Rattle.depths.specs.Tables.{Known}
+use Rattle.depths.specs.Least.{Known}
 use Rattle.depths.proofs.least.least_depths.Given as given
 
 abbrev pub Inv-loop-depth : given.InvT-loop-depth

@@ -1,10 +1,10 @@
-use mathlib.Core.Path.{_≡_, sym, subst}
+use mathlib.Core.Path.{sym, subst}
 use Prim.Native.Nat.{_<_, _≤_}
-use lib.ListN.{getD, length}
+use lib.ListN.{length}
 use native.Mathlib.Omega.{arith}
 use Rattle.std.proofs.shelf.Lists.{length-map}
-use Rattle.syntax.specs.Tables.{cases-in, declared-in}
-use Rattle.depths.specs.Tables.{need-in, Easiest}
+use Rattle.syntax.specs.Tables.{declared-in}
+use Rattle.depths.specs.Needs.{need-in, Easiest}
 use Rattle.depths.proofs.Entries.{cases-at}
 use Rattle.depths.proofs.Rounds.{stored, next-round}
 use Rattle.depths.proofs.least.round.Needs as need

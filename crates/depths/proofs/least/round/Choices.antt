@@ -1,6 +1,6 @@
 use Prim.Native.Nat.{ℕ}
 use Rattle.syntax.specs.Tables.{declared-in}
-use Rattle.depths.specs.Tables.{Known}
+use Rattle.depths.specs.Least.{Known}
 use Rattle.depths.proofs.least.round.Given as given
 
 abbrev pub Inv-loop-t : given.InvT-loop-t

@@ -1,10 +1,10 @@
-use mathlib.Core.Path.{_≡_, ap, _∙_}
+use mathlib.Core.Path.{_≡_}
 use Prim.Native.Nat.{_<_, _≤_, _+_, max}
 use lib.ListN.{length, getD, drop}
 use native.Mathlib.Omega.{arith}
 use Rattle.std.proofs.shelf.Lists.{at-drop-more, at-drop-all}
 use Rattle.syntax.specs.Least.{greatest}
-use Rattle.depths.specs.Tables.{depth-at}
+use Rattle.depths.specs.Needs.{depth-at}
 use Rattle.depths.proofs.Rounds.{depth-low}
 use Rattle.depths.proofs.needs.deepest_of.Needs as need
 

@@ -2,7 +2,7 @@ use mathlib.Core.Path.{_≡_}
 use Prim.Native.Nat.{_≤_, max}
 use lib.ListN.{drop}
 use Rattle.syntax.specs.Least.{greatest}
-use Rattle.depths.specs.Tables.{depth-at}
+use Rattle.depths.specs.Needs.{depth-at}
 use Rattle.depths.proofs.needs.deepest_of.Given as given
 
 abbrev pub Inv-loop-t : given.InvT-loop-t

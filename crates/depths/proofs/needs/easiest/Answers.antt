@@ -1,10 +1,10 @@
 use mathlib.Core.Path.{_≡_, sym, ap, _∙_, subst}
-use Prim.Native.Nat.{_≤_, _+_, min}
+use Prim.Native.Nat.{_+_, min}
 use lib.ListN.{length}
 use native.Mathlib.Omega.{arith}
 use Rattle.syntax.specs.Tables.{cases-in}
-use Rattle.depths.specs.Tables.{need-in, Easiest}
-use Rattle.depths.proofs.Easiests.{of-none, one-more}
+use Rattle.depths.specs.Needs.{need-in, Easiest}
+use Rattle.depths.proofs.Filling.{of-none, one-more}
 use Rattle.depths.proofs.needs.easiest.Needs as need
 
 pub loop-c-holds : need.loop-c-holds

@@ -1,5 +1,5 @@
 use Rattle.syntax.specs.Tables.{cases-in}
-use Rattle.depths.specs.Tables.{need-in, Easiest}
+use Rattle.depths.specs.Needs.{need-in, Easiest}
 use Rattle.depths.proofs.needs.easiest.Given as given
 
 abbrev pub Inv-loop-c : given.InvT-loop-c

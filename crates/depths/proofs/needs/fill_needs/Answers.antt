@@ -1,25 +1,17 @@
-use mathlib.Core.Path.{_≡_, sym, ap, _∙_, subst}
-use mathlib.Core.List.{[]}
-use mathlib.Core.Logic.{⊎-elim}
-use Prim.Native.Nat.{ℕ, _<_}
-use lib.ListN.{getD, length, set}
+use mathlib.Core.Path.{_∙_}
+use Prim.Native.Nat.{_<_}
+use lib.ListN.{length}
 use native.Mathlib.Omega.{arith}
-use Rattle.std.proofs.shelf.Lists.{getD-set-same, getD-set-other}
-use Rattle.std.proofs.shelf.Tests.{cases-eq}
 use Rattle.syntax.specs.Tables.{declared-in}
-use Rattle.depths.specs.Tables.{need-by, Filled}
+use Rattle.depths.specs.Needs.{need-by, Filled}
+use Rattle.depths.proofs.Filling.{row-more}
 use Rattle.depths.proofs.Rounds.{need-right}
 use Rattle.depths.proofs.needs.fill_needs.Needs as need
 
 pub loop-t-again : need.loop-t-again
-loop-t-again c t lt = ⊎-elim
-    (λ same k few.
-    let row = getD-set-same (c .loop-t .needs) (c .loop-t .t) (c .needs-of .result) [] (omega arith) in
-    subst (λ u. getD (getD (set (c .loop-t .needs) (c .loop-t .t) (c .needs-of .result)) u []) k 0 ≡ need-by (declared-in (c .args .sig)) (c .args .least .now) u k) (sym same)
-    (ap (λ r. getD r k 0) row ∙ c .needs-of .ensures k few))
-    (λ other k few.
-    ap (λ r. getD r k 0) (getD-set-other (c .loop-t .needs) (c .loop-t .t) t (c .needs-of .result) [] other) ∙ c .loop-t .inv t (omega arith) k few)
-    (cases-eq t (c .loop-t .t))
+loop-t-again c =
+    let low : c .loop-t .t < length (c .loop-t .needs) = omega arith in
+    row-more (need-by (declared-in (c .args .sig)) (c .args .least .now)) (c .loop-t .needs) (c .loop-t .t) (c .needs-of .result) low (c .loop-t .inv) (c .needs-of .ensures)
 
 pub returns : need.returns
 returns c =

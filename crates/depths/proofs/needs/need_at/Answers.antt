@@ -1,9 +1,5 @@
-use mathlib.Core.Path.{_≡_, sym, ap, _∙_}
-use mathlib.Core.List.{[]}
-use Prim.Native.Nat.{_+_}
-use lib.ListN.{getD}
-use Rattle.syntax.specs.Least.{greatest}
-use Rattle.depths.specs.Tables.{depth-at, need-in}
+use mathlib.Core.Path.{sym, ap, _∙_}
+use Rattle.depths.specs.Needs.{need-in}
 use Rattle.depths.proofs.Entries.{cases-at, cases-past}
 use Rattle.depths.proofs.needs.need_at.Needs as need
 

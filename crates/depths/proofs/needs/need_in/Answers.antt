@@ -1,12 +1,12 @@
 use mathlib.Core.Path.{_≡_, sym, ap, _∙_}
 use mathlib.Core.List.{[]}
-use Prim.Native.Nat.{_<_, _≤_, _+_, _-_}
+use Prim.Native.Nat.{_<_, _≤_, _+_}
 use lib.ListN.{length, getD, take}
 use native.Mathlib.Omega.{arith}
 use Rattle.std.proofs.shelf.Lists.{getD-past}
 use Rattle.syntax.specs.Tables.{listed, cases-in}
 use Rattle.syntax.specs.Least.{greatest}
-use Rattle.depths.specs.Tables.{depth-at}
+use Rattle.depths.specs.Needs.{depth-at}
 use Rattle.depths.proofs.Entries.{take-own, constructor-at, no-types}
 use Rattle.depths.proofs.needs.need_in.Needs as need
 

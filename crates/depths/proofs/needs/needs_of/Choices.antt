@@ -2,7 +2,7 @@ use mathlib.Core.Path.{_≡_}
 use Prim.Native.Nat.{ℕ, _<_}
 use lib.ListN.{getD, length}
 use Rattle.syntax.specs.Tables.{declared-in}
-use Rattle.depths.specs.Tables.{need-by}
+use Rattle.depths.specs.Needs.{need-by}
 use Rattle.depths.proofs.needs.needs_of.Given as given
 
 abbrev pub Inv-loop-c : given.InvT-loop-c
