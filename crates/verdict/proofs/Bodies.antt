@@ -15,8 +15,8 @@ use Rattle.records.specs.Tabled.{body-at, term-at}
 use Rattle.terms.specs.Reading.{reading}
 use Rattle.terms.specs.Verdicts.{ReadsTerms}
 use Rattle.terms.proofs.Verdicts.{reading-is-exact}
-use Rattle.problem.specs.Verdict.{term-in, bodies-in, goals-in}
-use Rattle.problem.proofs.Results.{was-ok, then-ok, term-was}
+use Rattle.verdict.specs.Verdict.{term-in, bodies-in, goals-in}
+use Rattle.verdict.proofs.Results.{was-ok, then-ok, term-was}
 
 abbrev pub Typed-body : Sig → Function → Type 0
 Typed-body sig f = HasType sig (f .profile .params) (f .body) (f .profile .result)

@@ -9,7 +9,8 @@ use Rattle.std.specs.declared.option.Option.the-variants.{None, Some}
 use Rattle.std.specs.declared.result.Result.{Result}
 use Rattle.std.specs.declared.result.Result.the-variants.{Ok, Err}
 use Rattle.syntax.specs.declared.faults.Fault.{Fault}
-use Rattle.syntax.specs.declared.faults.Reason.the-variants.{NoValue, BadTerm}
+use Rattle.syntax.specs.declared.faults.Reason.{Reason}
+use Rattle.syntax.specs.declared.faults.Reason.the-variants.{Undeclared, NoValue, BadTerm}
 use Rattle.syntax.specs.Faults.{fault}
 use Rattle.syntax.specs.Terms.{Term}
 use Rattle.syntax.specs.Typing.{Sig}
@@ -18,6 +19,7 @@ use Rattle.syntax.specs.Problems.{Function, Problem, bool, concat, encode-type,
 use Rattle.records.specs.Raw.{Raw, Raw-function, write-function, write-goal}
 use Rattle.records.specs.Reading.{and-then, records}
 use Rattle.records.specs.Tabled.{declared-by, functions-start, goals-start, body-at, term-at}
+use Rattle.declarations.specs.Numbers.{undeclared}
 use Rattle.terms.specs.Reading.{reading}
 
 -- The first type whose values are all deeper than 8, if it has any, at its mark. The type number is t, and p the place of its record.
@@ -28,6 +30,7 @@ deep-from sig t (cs ∷ ts) p = cond (leb (least-of sig t) 8) (deep-from sig (t 
 abbrev pub deep : Raw → Option ℕ
 deep r = deep-from (declared-by r) 1 (r .types) 0
 
+-- a place at which a term fails, as a fault
 abbrev pub term-in : Result Term ℕ → Result Term Fault
 term-in (Ok t) = Ok t
 term-in (Err p) = Err (fault BadTerm p)
@@ -50,3 +53,28 @@ terms-in r =
     and-then (bodies-in (declared-by r) (r .functions) (functions-start r)) (λ fs.
     and-then (goals-in (declared-by r) (r .goals) (goals-start r)) (λ gs.
     Ok (record { types = r .types; functions = fs; unknowns = r .unknowns; goals = gs })))
+
+-- a fault at the place that was found, if any, and else what comes after
+abbrev pub unless : Option ℕ → Reason → Result (Unit {0}) Fault → Result (Unit {0}) Fault
+unless None why after = after
+unless (Some p) why after = Err (fault why p)
+
+abbrev pub types-in : Raw → Result (Unit {0}) Fault
+types-in r = unless (undeclared r) Undeclared (unless (deep r) NoValue (Ok tt))
+
+-- The records are read first, then the types are looked at, then the terms are read; each layer only where the one before has no fault.
+abbrev pub verdict : List ℕ → Result Problem Fault
+verdict bs = and-then (records bs) (λ r. and-then (types-in r) (λ _. terms-in r))
+
+abbrev pub problem-in : Result Problem Fault → Problem
+problem-in (Ok p) = p
+problem-in (Err f) = empty-problem
+
+-- the problem that the bytes are; the empty one where they are refused
+abbrev pub decoded : List ℕ → Problem
+decoded bs = problem-in (verdict bs)
+
+-- what a check answers
+abbrev pub checked : Result Problem Fault → Result (Unit {0}) Fault
+checked (Ok p) = Ok tt
+checked (Err f) = Err f

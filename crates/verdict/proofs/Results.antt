@@ -7,7 +7,7 @@ use Rattle.std.specs.declared.result.Result.the-variants.{Ok, Err}
 use Rattle.syntax.specs.declared.faults.Fault.{Fault}
 use Rattle.syntax.specs.Terms.{Term}
 use Rattle.records.specs.Reading.{and-then}
-use Rattle.problem.specs.Verdict.{term-in}
+use Rattle.verdict.specs.Verdict.{term-in}
 
 pub never-ok : {A B E : Type 0} {e : E} {x : A} → _≡_ {A = Result A E} (Err e) (Ok x) → B
 never-ok q = let z : _≡_ {A = ℕ} 0 1 = cc in absurd (omega arith)

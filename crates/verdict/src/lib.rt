@@ -1,0 +1,1 @@
+// The verdict on bytes: are they a problem, and if not, what is the first fault?
