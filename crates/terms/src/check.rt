@@ -254,41 +254,28 @@ fn read(sig: Signature, scope: &[u8; 64], part: Part, ty: u8, cut: u8, b: u8) ->
     match part {
         Part::Start => begin(sig, scope, ty, cut, b),
         Part::WhichVariable => {
-            if in_scope(scope, cut, b, ty) {
-                Step::Done
-            } else {
-                Step::Fails
-            }
+            let known = in_scope(scope, cut, b, ty);
+            if known { Step::Done } else { Step::Fails }
         }
         Part::WhichUnknown => {
-            if is_unknown(sig, b, ty) {
-                Step::Done
-            } else {
-                Step::Fails
-            }
+            let known = is_unknown(sig, b, ty);
+            if known { Step::Done } else { Step::Fails }
         }
         Part::OwnType => {
-            if b == ty {
-                one(Part::WhichConstructor, ty, cut)
-            } else {
-                Step::Fails
-            }
+            let then = one(Part::WhichConstructor, ty, cut);
+            if b == ty { then } else { Step::Fails }
         }
         Part::WhichConstructor => read_constructor(sig, ty, cut, b),
         Part::WhichFunction => read_function(sig, ty, cut, b),
         Part::SubjectType => {
-            if is_declared(sig, b) {
-                Step::Then(Task::Case { of: b, ty, cut })
-            } else {
-                Step::Fails
-            }
+            let known = is_declared(sig, b);
+            let then = Step::Then(Task::Case { of: b, ty, cut });
+            if known { then } else { Step::Fails }
         }
         Part::SidesType => {
-            if is_declared(sig, b) {
-                Step::Then(Task::Two { ty: b, cut })
-            } else {
-                Step::Fails
-            }
+            let known = is_declared(sig, b);
+            let then = Step::Then(Task::Two { ty: b, cut });
+            if known { then } else { Step::Fails }
         }
     }
 }
