@@ -3,3 +3,5 @@ pub mod Passed
 pub mod Sound
 pub mod Runs
 pub mod Nexts
+pub mod Turns
+pub mod Filling

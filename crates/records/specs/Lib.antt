@@ -5,3 +5,4 @@ pub mod Next
 pub mod Readers
 pub mod Handed
 pub mod Tabled
+pub mod Sections
