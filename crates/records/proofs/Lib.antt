@@ -5,3 +5,6 @@ pub mod Runs
 pub mod Nexts
 pub mod Turns
 pub mod Filling
+pub mod RecordKinds
+pub mod Exactness
+pub mod Assembling

@@ -6,3 +6,4 @@ pub mod Readers
 pub mod Handed
 pub mod Tabled
 pub mod Sections
+pub mod Exact
