@@ -5,3 +5,5 @@ pub mod Next
 pub mod Readers
 pub mod Handed
 pub mod Tabled
+pub mod Sections
+pub mod Exact

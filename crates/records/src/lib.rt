@@ -2,4 +2,5 @@
 pub mod next;
 pub mod parts;
 pub mod reader;
+pub mod sections;
 pub mod tables;
