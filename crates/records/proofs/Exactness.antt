@@ -214,7 +214,7 @@ writes-back bs r h e =
     let four = s .goals .writes h₃ in
     sym (one ∙ ap (λ k. ts ++ k) (two ∙ ap (λ k. fs ++ k) (three ∙ ap (λ k. us ++ k) (four ∙ ap (λ k. gs ++ k) (s .end)))))
 
-reads-back : (r : Raw) → Within r → records (write r) ≡ Ok r
+pub reads-back : (r : Raw) → Within r → records (write r) ≡ Ok r
 reads-back r h =
     let ts = r .types in
     let fs = r .functions in
