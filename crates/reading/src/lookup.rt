@@ -1,4 +1,5 @@
 // What a signature's tables say of a type, a constructor or a function; of a number that names none, nothing.
+// Arrays are read through slices: no entry of a table is copied, and a count past its array's end is cut to it.
 ghost use mathlib.Core.Path.{_≡_};
 ghost use mathlib.Core.Bool.{_&&_};
 ghost use mathlib.Core.List.{[]};
@@ -65,7 +66,7 @@ fn constructor_in(datatype: &Datatype, c: u8) -> TypeList
 pub fn is_declared(sig: Signature, t: u8) -> bool
     ensures { λ r. ⌜ r ≡ ltb t (length (declared-in (sig .entry) .types)) ⌝ }
 {
-    (t as usize) < sig.types.len()
+    sig.types.len() > t as usize
 }
 
 // How many constructors a type has.
