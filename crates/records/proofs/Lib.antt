@@ -3,8 +3,3 @@ pub mod Passed
 pub mod Sound
 pub mod Runs
 pub mod Nexts
-pub mod Turns
-pub mod Filling
-pub mod RecordKinds
-pub mod Exactness
-pub mod Assembling

@@ -4,6 +4,3 @@ pub mod Examples
 pub mod Next
 pub mod Readers
 pub mod Handed
-pub mod Tabled
-pub mod Sections
-pub mod Exact
