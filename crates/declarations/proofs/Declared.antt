@@ -12,7 +12,7 @@ use Rattle.std.specs.declared.option.Option.the-variants.{None, Some}
 use Rattle.syntax.specs.Typing.{Sig, Declared}
 use Rattle.syntax.specs.Problems.{Each, encode-type}
 use Rattle.records.specs.Raw.{Raw, Raw-function, write-function}
-use Rattle.records.specs.Tabled.{declared-by, functions-start, unknowns-start}
+use Rattle.tables.specs.Tabled.{declared-by, functions-start, unknowns-start}
 use Rattle.declarations.specs.Numbers.{Number, number, in-list, in-cases, in-types, in-profile, in-functions, in-unknowns, first-from, undeclared}
 use Rattle.declarations.specs.Laws.{All-declared, None-undeclared, Undeclared-is-exact}
 use Rattle.declarations.proofs.First.{otherwise, first-joined}

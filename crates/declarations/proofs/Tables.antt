@@ -11,7 +11,7 @@ use Rattle.syntax.specs.Tables.{listed, cases-in, profile-in}
 use Rattle.syntax.specs.Typing.{Profile}
 use Rattle.syntax.specs.Problems.{bool, encode-type}
 use Rattle.records.specs.Raw.{Raw, Raw-function, write-function}
-use Rattle.records.specs.Tabled.{places-of, mark-at, functions-start, unknowns-start, Declares}
+use Rattle.tables.specs.Tabled.{places-of, mark-at, functions-start, unknowns-start, Declares}
 use Rattle.declarations.specs.Numbers.{Number, in-cases, in-types, in-profile, in-functions, in-unknowns, numbers-in, of-types, of-functions, of-tables}
 
 apart : {A B : Type 0} {x : B} {xs : List B} → _≡_ {A = List B} [] (x ∷ xs) → A

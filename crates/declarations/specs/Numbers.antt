@@ -14,7 +14,7 @@ use Rattle.syntax.specs.declared.tables.Signature.{Signature}
 use Rattle.syntax.specs.Tables.{listed, cases-in}
 use Rattle.syntax.specs.Problems.{encode-type}
 use Rattle.records.specs.Raw.{Raw, Raw-function, write-function}
-use Rattle.records.specs.Tabled.{declared-by, functions-start, unknowns-start}
+use Rattle.tables.specs.Tabled.{declared-by, functions-start, unknowns-start}
 
 -- a type number, and the place where it stands
 pub record Number : Type 0 where

@@ -14,7 +14,7 @@ use Rattle.syntax.specs.Typing.{Sig, Declared}
 use Rattle.syntax.specs.Values.{Value, build, v[], OfType, of-type, of[], depth, Shallow, IsLeast}
 use Rattle.syntax.specs.Least.{least-of}
 use Rattle.syntax.specs.Problems.{encode-type}
-use Rattle.records.specs.Tabled.{places-of, mark-at}
+use Rattle.tables.specs.Tabled.{places-of, mark-at}
 use Rattle.depths.proofs.Leasts.{least-is-least}
 use Rattle.verdict.specs.Verdict.{deep-from}
 

@@ -20,9 +20,9 @@ use Rattle.syntax.specs.Least.{least-of}
 use Rattle.syntax.specs.Problems.{Function, Problem, Each, bool, sig-of, concat, encode-list, encode-type, encode-function, encode-unknown, encode-goal, encode-end, encode-problem, Few-types, Lawful-type, Lawful-function, Lawful-goal, Lawful}
 use Rattle.records.specs.Raw.{Raw, Raw-function, write, write-function, write-goal, Few, Within}
 use Rattle.records.specs.Reading.{and-then, records}
-use Rattle.records.specs.Exact.{Bytes, Read-as, Reading-exact}
-use Rattle.records.specs.Tabled.{declared-by, functions-start, goals-start}
-use Rattle.records.proofs.Exactness.{reading-exact, reads-back}
+use Rattle.tables.specs.Exact.{Bytes, Read-as, Reading-exact}
+use Rattle.tables.specs.Tabled.{declared-by, functions-start, goals-start}
+use Rattle.tables.proofs.Exactness.{reading-exact, reads-back}
 use Rattle.declarations.specs.Numbers.{undeclared}
 use Rattle.declarations.specs.Laws.{All-declared, None-undeclared}
 use Rattle.declarations.proofs.Declared.{undeclared-is-exact}

@@ -6,7 +6,7 @@ use Rattle.std.specs.declared.result.Result.{Result}
 use Rattle.std.specs.declared.result.Result.the-variants.{Ok, Err}
 use Rattle.syntax.specs.declared.faults.Fault.{Fault}
 use Rattle.syntax.specs.Problems.{Problem, Lawful, encode-problem}
-use Rattle.records.specs.Exact.{Bytes}
+use Rattle.tables.specs.Exact.{Bytes}
 use Rattle.verdict.specs.Verdict.{verdict}
 
 -- p is lawful, and the bytes are its encoding
