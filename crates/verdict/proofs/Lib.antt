@@ -2,3 +2,4 @@ pub mod Results
 pub mod Bodies
 pub mod Deep
 pub mod Exact
+pub mod Checks
