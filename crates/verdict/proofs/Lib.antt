@@ -3,3 +3,4 @@ pub mod Bodies
 pub mod Deep
 pub mod Exact
 pub mod Checks
+pub mod Looks
