@@ -6,7 +6,7 @@ use Rattle.std.specs.declared.option.Option.the-variants.{None}
 use Rattle.syntax.specs.Typing.{Sig, Declared}
 use Rattle.syntax.specs.Problems.{Each}
 use Rattle.records.specs.Raw.{Raw, Raw-function}
-use Rattle.records.specs.Tabled.{declared-by}
+use Rattle.tables.specs.Tabled.{declared-by}
 use Rattle.declarations.specs.Numbers.{undeclared}
 
 -- every type number outside terms names a type

@@ -14,7 +14,7 @@ use Rattle.syntax.specs.declared.tables.Signature.{Signature}
 use Rattle.syntax.specs.Tables.{listed, cases-in}
 use Rattle.syntax.specs.Problems.{encode-type}
 use Rattle.records.specs.Raw.{Raw, Raw-function, write-function}
-use Rattle.records.specs.Tabled.{functions-start, unknowns-start}
+use Rattle.tables.specs.Tabled.{declared-by, functions-start, unknowns-start}
 
 -- a type number, and the place where it stands
 pub record Number : Type 0 where
@@ -61,7 +61,7 @@ first-from n (x ∷ xs) = cond (ltb (x .type) n) (first-from n xs) (Some (x .pla
 
 -- Type 0 is Bool, and the declared ones count from 1.
 abbrev pub undeclared : Raw → Option ℕ
-undeclared r = first-from (1 + length (r .types)) (numbers-in r)
+undeclared r = first-from (length (declared-by r .types)) (numbers-in r)
 
 -- The same numbers, by the tables.
 abbrev pub of-types : List Datatype → List Number

@@ -133,3 +133,10 @@ pub fn undeclared(sig: Signature, start: usize) -> Option<usize>
     }
     in_unknowns(sig.unknowns, known, start)
 }
+
+// No place is named exactly if every type number outside terms names a type.
+pub fn undeclared_is_exact() -> u8
+    ensures { λ _. ⌜ Undeclared-is-exact ⌝ }
+{
+    0
+}

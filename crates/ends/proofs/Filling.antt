@@ -10,9 +10,9 @@ use native.Mathlib.Omega.{arith}
 use borrow.Author.Tests.{lt-ltb, le-ltb}
 use Rattle.std.proofs.shelf.Lists.{length-set, length-replicate, getD-set-same, getD-set-other, getD-past, ext-getD}
 use Rattle.std.proofs.shelf.Tests.{cases-eq, cases-lt, cond-both, ltb-true, ltb-false}
-use Rattle.terms.specs.declared.tasks.Tag.{Tag}
-use Rattle.terms.specs.declared.tasks.Tag.the-variants.{Variable, Unknown, Constructor, Call, Case, And, Not, Equal, Other}
-use Rattle.terms.specs.Reading.{tag-of}
+use Rattle.reading.specs.declared.parts.Tag.{Tag}
+use Rattle.reading.specs.declared.parts.Tag.the-variants.{Variable, Unknown, Constructor, Call, Case, And, Not, Equal, Other}
+use Rattle.reading.specs.Reading.{tag-of}
 use Rattle.syntax.specs.Typing.{Sig}
 use Rattle.ends.specs.Ends.{Ends, head-of, parts-of, hop, hops, end-at, at-most, filled, ends-of}
 use Rattle.ends.proofs.Ending.{none-past, one-more}

@@ -7,7 +7,7 @@ use native.Mathlib.Omega.{arith}
 use Rattle.std.proofs.shelf.Lists.{take-at, drop-at}
 use Rattle.syntax.specs.Terms.{Term, encode}
 use Rattle.syntax.specs.Typing.{Sig, HasType}
-use Rattle.terms.proofs.Verdicts.{unique}
+use Rattle.reading.proofs.Verdicts.{unique}
 use Rattle.ends.specs.Laws.{Prefix-free}
 use Rattle.ends.proofs.Filling.{ends-stand}
 

@@ -5,11 +5,11 @@ use mathlib.Core.List.{List, [], _∷_, _++_}
 use Prim.Native.Nat.{ℕ, zero, suc, _+_, _-_, _≤_, _<_}
 use lib.Dec.{ltb}
 use lib.ListN.{length, getD, drop, set, replicate}
-use Rattle.terms.specs.declared.tasks.Tag.{Tag}
-use Rattle.terms.specs.declared.tasks.Tag.the-variants.{Variable, Unknown, Constructor, Call, Case, And, Not, Equal, Other}
+use Rattle.reading.specs.declared.parts.Tag.{Tag}
+use Rattle.reading.specs.declared.parts.Tag.the-variants.{Variable, Unknown, Constructor, Call, Case, And, Not, Equal, Other}
 use Rattle.syntax.specs.Terms.{Term, Terms, var, unknown, con, call, case, both, not, equal, t[], _t∷_, encode}
 use Rattle.syntax.specs.Typing.{Sig, Want, want, each-of, branches-of, HasType, arguments, params-of, cases-of}
-use Rattle.terms.specs.Reading.{tag-of}
+use Rattle.reading.specs.Reading.{tag-of}
 
 -- where a typed term stands, from the place i on, the table has the place after it
 abbrev pub Ends : Sig → List ℕ → List ℕ → ℕ → Type 0

@@ -4,13 +4,12 @@ ghost use Prim.Native.Nat.{_+_, _<_, _≤_, _^_};
 ghost use lib.ListN.{length, getD};
 ghost use Rattle.syntax.specs.Tables.{declared-in};
 ghost use Rattle.ends.specs.Ends.{Ends, head-of, parts-of, hop, hops, end-at, ends-of};
+use reading::lookup::cases;
+use reading::lookup::constructor;
+use reading::lookup::parameters;
+use reading::lookup::size;
+use reading::parts::Tag;
 use syntax::tables::Signature;
-use terms::check::tag;
-use terms::lookup::cases;
-use terms::lookup::constructor;
-use terms::lookup::parameters;
-use terms::lookup::size;
-use terms::tasks::Tag;
 
 // The bytes before the first part of a term.
 fn head(tag: Tag) -> usize
@@ -67,7 +66,7 @@ fn end_of(bytes: &[u8], sig: Signature, next: &[u16], p: usize) -> usize
     requires { ⌜ p < length (now bytes) ⌝ ∗ ⌜ length (now bytes) < 2 ^ 16 ⌝ }
     ensures { λ r. ⌜ r ≡ end-at (declared-in (sig .entry)) (now (bytes .entry)) (now (next .entry)) p ⌝ }
 {
-    let tag = tag(at(bytes, p));
+    let tag = Tag::of(at(bytes, p));
     past(
         next,
         p + head(tag),

@@ -1,14 +1,6 @@
 // What holds of typed terms and their bytes.
-ghost use Rattle.terms.specs.Verdicts.{Reading-is-exact};
 ghost use Rattle.ends.specs.Ends.{Ends-give-parts};
 ghost use Rattle.ends.specs.Laws.{Prefix-free, Values-are-terms};
-
-// What is read is a term of the wanted type with these bytes, and each such term is read.
-pub fn reading_is_exact() -> u8
-    ensures { λ _. ⌜ Reading-is-exact ⌝ }
-{
-    0
-}
 
 // Of two terms of one type, neither begins with the bytes of the other.
 pub fn prefix_free() -> u8

@@ -4,4 +4,3 @@ pub mod Examples
 pub mod Next
 pub mod Readers
 pub mod Handed
-pub mod Tabled

@@ -1,5 +1,4 @@
-// Reads the records of a problem.
+// Reads the records of a problem one after another.
 pub mod next;
 pub mod parts;
 pub mod reader;
-pub mod tables;

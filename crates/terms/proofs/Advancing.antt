@@ -10,7 +10,7 @@ use native.Mathlib.Omega.{arith}
 use Rattle.terms.specs.declared.tasks.Task.{Task}
 use Rattle.terms.specs.declared.tasks.Opened.{Opened}
 use Rattle.syntax.specs.Typing.{Sig, Want}
-use Rattle.terms.specs.Reading.{Item, item, start, begins, tag-of, allowed, asked}
+use Rattle.reading.specs.Reading.{Item, item, start, begins, tag-of, allowed, asked}
 use Rattle.terms.specs.Tasks.{cut-of, expand-rest, Fine-rest, Opens, Crowded, stack-of, Pile, Stops, Taken, item-of, Moves, Advances}
 use Rattle.terms.proofs.Piles.{rescoped, raised, Popped}
 

@@ -1,9 +1,4 @@
-pub mod Tables
 pub mod Opening
 pub mod Piles
 pub mod Advancing
 pub mod Checking
-pub mod Complete
-pub mod Sound
-pub mod Early
-pub mod Verdicts

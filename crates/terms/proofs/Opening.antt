@@ -13,8 +13,8 @@ use Rattle.terms.specs.declared.tasks.Task.{Task}
 use Rattle.terms.specs.declared.tasks.Task.the-variants.{Case, Branches}
 use Rattle.terms.specs.declared.tasks.Opened.{Opened}
 use Rattle.syntax.specs.Typing.{Sig, Want, want, cases-of}
-use Rattle.terms.specs.Reading.{Item, item, start, starts}
-use Rattle.terms.specs.declared.tasks.Part.the-variants.{Start}
+use Rattle.reading.specs.Reading.{Item, item, start, starts}
+use Rattle.reading.specs.declared.parts.Part.the-variants.{Start}
 use Rattle.std.specs.declared.option.Option.{Option}
 use Rattle.terms.specs.Tasks.{expand, cut-of, Left, Fine, expand-rest, Fine-rest, Opens, term-first}
 

@@ -9,9 +9,9 @@ use native.Mathlib.Omega.{arith}
 use Rattle.std.proofs.shelf.Lists.{take-take, getD-set-same, getD-set-other}
 use Rattle.terms.specs.declared.tasks.Task.{Task}
 use Rattle.terms.specs.declared.tasks.Task.the-variants.{One, Two, Arguments, Parameters, Case, Branches}
-use Rattle.terms.specs.declared.tasks.Part.the-variants.{Start}
+use Rattle.reading.specs.declared.parts.Part.the-variants.{Start}
 use Rattle.syntax.specs.Typing.{Sig, Want, want, arguments, params-of, cases-of, each-of, branches-of}
-use Rattle.terms.specs.Reading.{Item, item, start, starts}
+use Rattle.reading.specs.Reading.{Item, item, start, starts}
 use Rattle.terms.specs.Tasks.{expand, cut-of, Left, Fine, no-task, stack-of, Piled, Pile}
 
 -- the items of a task ask only for the variables below its cut

@@ -1,4 +1,1 @@
-pub mod Reading
 pub mod Tasks
-pub mod Verdicts
-pub mod Examples

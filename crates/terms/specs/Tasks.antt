@@ -7,14 +7,14 @@ use lib.ListN.{length, getD, take, drop}
 use Rattle.std.specs.declared.option.Option.{Option}
 use Rattle.std.specs.declared.option.Option.the-variants.{Some, None}
 use Rattle.syntax.specs.Typing.{Sig, Want, want, cases-of, arguments, params-of, each-of, branches-of}
-use Rattle.terms.specs.declared.tasks.Part.{Part}
-use Rattle.terms.specs.declared.tasks.Part.the-variants.{Start}
+use Rattle.reading.specs.declared.parts.Part.{Part}
+use Rattle.reading.specs.declared.parts.Part.the-variants.{Start}
 use Rattle.terms.specs.declared.tasks.Task.{Task}
 use Rattle.terms.specs.declared.tasks.Task.the-variants.{One, Two, Arguments, Parameters, Case, Branches}
 use Rattle.terms.specs.declared.tasks.Opened.{Opened}
 use Rattle.terms.specs.declared.tasks.Step.{Step}
 use Rattle.terms.specs.declared.tasks.Step.the-variants.{Fails, Done, Then}
-use Rattle.terms.specs.Reading.{Item, item, start, starts, allowed, asked}
+use Rattle.reading.specs.Reading.{Item, item, start, starts, allowed, asked}
 
 -- the items of a task, where the variables have the types s
 abbrev pub expand : Sig → List ℕ → Task → List Item

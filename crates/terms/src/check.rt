@@ -8,44 +8,27 @@ ghost use Rattle.std.specs.Options.{Cases as BySome};
 ghost use Rattle.std.specs.declared.option.Option.the-variants.{Some, None};
 ghost use Rattle.syntax.specs.Typing.{Sig, cases-of, arguments, params-of};
 ghost use Rattle.syntax.specs.Tables.{listed, declared-in};
-ghost use Rattle.terms.specs.declared.tasks.Part.the-variants.{Start, WhichConstructor, WhichFunction};
-ghost use Rattle.terms.specs.Reading.{Item, item, stands, tag-of, reading, verdict};
-ghost use Rattle.terms.specs.Verdicts.{Says};
+ghost use Rattle.reading.specs.declared.parts.Part.the-variants.{Start, WhichConstructor, WhichFunction};
+ghost use Rattle.reading.specs.Reading.{Item, item, stands, reading, verdict};
+ghost use Rattle.reading.specs.Verdicts.{Says};
 ghost use Rattle.terms.specs.Tasks.{cut-of, Left, stack-of, Pile, Piled, Fine-rest, expand-rest, term-first, Binds, Opens, Crowded, Steps, Stops, Taken, Advances};
-use crate::lookup::cases;
-use crate::lookup::constructor;
-use crate::lookup::gives;
-use crate::lookup::is_declared;
-use crate::lookup::is_unknown;
-use crate::lookup::parameters;
-use crate::lookup::size;
-use crate::lookup::type_at;
 use crate::tasks::Opened;
-use crate::tasks::Part;
 use crate::tasks::Step;
-use crate::tasks::Tag;
 use crate::tasks::Task;
+use reading::lookup::cases;
+use reading::lookup::constructor;
+use reading::lookup::gives;
+use reading::lookup::is_declared;
+use reading::lookup::is_unknown;
+use reading::lookup::parameters;
+use reading::lookup::size;
+use reading::lookup::type_at;
+use reading::parts::Part;
+use reading::parts::Tag;
 use syntax::faults::Fault;
 use syntax::faults::Reason;
 use syntax::tables::Signature;
 use syntax::tables::TypeList;
-
-// What a first byte says.
-pub fn tag(b: u8) -> Tag
-    ensures { λ r. ⌜ r ≡ tag-of b ⌝ }
-{
-    match b {
-        0 => Tag::Variable,
-        1 => Tag::Unknown,
-        2 => Tag::Constructor,
-        3 => Tag::Call,
-        4 => Tag::Case,
-        5 => Tag::And,
-        6 => Tag::Not,
-        7 => Tag::Equal,
-        _ => Tag::Other,
-    }
-}
 
 // A branch begins: its constructor's arguments are the next variables. The number of variables, if at most 64.
 fn bind(scope: &mut [u8; 64], cut: u8, list: &TypeList) -> Option<u8>
@@ -190,7 +173,7 @@ fn begin(sig: Signature, scope: &[u8; 64], ty: u8, cut: u8, b: u8) -> Step
     requires { ⌜ cut ≤ 64 ⌝ }
     ensures { λ r. ⌜ Steps (declared-in (sig .entry)) (now (scope .entry)) (item Start (take cut (now (scope .entry))) ty) cut b r ⌝ }
 {
-    match tag(b) {
+    match Tag::of(b) {
         Tag::Variable => one(Part::WhichVariable, ty, cut),
         Tag::Unknown => one(Part::WhichUnknown, ty, cut),
         Tag::Constructor => one(Part::OwnType, ty, cut),

@@ -1,31 +1,5 @@
-// What the bytes of a term say, and what is still to be read of one.
-
-// What the first byte of a term says.
-#[derive(Clone, Copy)]
-pub enum Tag {
-    Variable,
-    Unknown,
-    Constructor,
-    Call,
-    Case,
-    And,
-    Not,
-    Equal,
-    Other,
-}
-
-// What the next byte of a term is: its first, or a number after its tag.
-#[derive(Clone, Copy)]
-pub enum Part {
-    Start,
-    WhichVariable,
-    WhichUnknown,
-    OwnType,
-    WhichConstructor,
-    WhichFunction,
-    SubjectType,
-    SidesType,
-}
+// What is still to be read of a term.
+use reading::parts::Part;
 
 // Terms that are still to be read, one or more; `cut` of the variables are in scope. A task stands for all the parts that are
 // left of one term, so that a byte adds at most one task.

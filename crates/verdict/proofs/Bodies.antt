@@ -11,10 +11,10 @@ use Rattle.syntax.specs.Typing.{Sig, Profile, HasType}
 use Rattle.syntax.specs.Problems.{Function, Problem, Each, concat, encode-list, encode-part, encode-function, encode-goal, Lawful-goal}
 use Rattle.records.specs.Raw.{Raw, Raw-function, write-function, write-goal}
 use Rattle.records.specs.Reading.{and-then}
-use Rattle.records.specs.Tabled.{body-at, term-at}
-use Rattle.terms.specs.Reading.{reading}
-use Rattle.terms.specs.Verdicts.{ReadsTerms}
-use Rattle.terms.proofs.Verdicts.{reading-is-exact}
+use Rattle.tables.specs.Tabled.{body-at, term-at}
+use Rattle.reading.specs.Reading.{reading}
+use Rattle.reading.specs.Verdicts.{ReadsTerms}
+use Rattle.reading.proofs.Verdicts.{reading-is-exact}
 use Rattle.verdict.specs.Verdict.{term-in, bodies-in, goals-in}
 use Rattle.verdict.proofs.Results.{was-ok, then-ok, term-was}
 

@@ -1,2 +1,4 @@
 pub mod Results
 pub mod Bodies
+pub mod Deep
+pub mod Exact

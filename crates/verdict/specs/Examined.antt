@@ -10,9 +10,9 @@ use Rattle.syntax.specs.declared.tables.Datatype.{Datatype}
 use Rattle.syntax.specs.declared.tables.Callable.{Callable}
 use Rattle.syntax.specs.declared.tables.Span.{Span}
 use Rattle.syntax.specs.Problems.{Problem}
-use Rattle.records.specs.declared.tables.Counts.{Counts}
+use Rattle.tables.specs.declared.filling.Counts.{Counts}
 use Rattle.records.specs.Raw.{Raw}
-use Rattle.records.specs.Tabled.{Tabled, declared-by}
+use Rattle.tables.specs.Tabled.{Tabled, declared-by}
 use Rattle.depths.specs.Least.{Leasts}
 use Rattle.verdict.specs.Verdict.{verdict, terms-in}
 

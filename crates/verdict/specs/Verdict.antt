@@ -18,9 +18,9 @@ use Rattle.syntax.specs.Least.{least-of}
 use Rattle.syntax.specs.Problems.{Function, Problem, bool, concat, encode-type, encode-unknown, empty-problem}
 use Rattle.records.specs.Raw.{Raw, Raw-function, write-function, write-goal}
 use Rattle.records.specs.Reading.{and-then, records}
-use Rattle.records.specs.Tabled.{declared-by, functions-start, goals-start, body-at, term-at}
+use Rattle.tables.specs.Tabled.{declared-by, functions-start, goals-start, body-at, term-at}
 use Rattle.declarations.specs.Numbers.{undeclared}
-use Rattle.terms.specs.Reading.{reading}
+use Rattle.reading.specs.Reading.{reading}
 
 -- The first type whose values are all deeper than 8, if it has any, at its mark. The type number is t, and p the place of its record.
 abbrev pub deep-from : Sig → ℕ → List (List (List ℕ)) → ℕ → Option ℕ

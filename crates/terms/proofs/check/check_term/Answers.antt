@@ -1,7 +1,7 @@
 use mathlib.Core.Path.{sym, subst}
 use Rattle.syntax.specs.Tables.{declared-in}
-use Rattle.terms.specs.Verdicts.{Says}
-use Rattle.terms.proofs.Verdicts.{says}
+use Rattle.reading.specs.Verdicts.{Says}
+use Rattle.reading.proofs.Verdicts.{says}
 use Rattle.terms.proofs.check.check_term.Needs as need
 
 pub returns : need.returns

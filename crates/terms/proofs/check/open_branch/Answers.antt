@@ -10,9 +10,9 @@ use Rattle.std.proofs.shelf.Lists.{drop-more, length-take-le}
 use Rattle.std.specs.declared.option.Option.the-variants.{Some, None}
 use Rattle.syntax.specs.Typing.{want, cases-of, arguments}
 use Rattle.syntax.specs.Tables.{declared-in}
-use Rattle.terms.specs.declared.tasks.Part.the-variants.{Start}
+use Rattle.reading.specs.declared.parts.Part.the-variants.{Start}
 use Rattle.terms.specs.declared.tasks.Task.the-variants.{Branches}
-use Rattle.terms.specs.Reading.{item, starts}
+use Rattle.reading.specs.Reading.{item, starts}
 use Rattle.terms.specs.Tasks.{Opens, term-first}
 use Rattle.terms.proofs.Opening.{opened}
 use Rattle.terms.proofs.check.open_branch.Needs as need

@@ -7,9 +7,9 @@ use native.Mathlib.Omega.{arith}
 use Rattle.std.specs.declared.option.Option.the-variants.{Some, None}
 use Rattle.syntax.specs.Typing.{want, params-of}
 use Rattle.syntax.specs.Tables.{declared-in}
-use Rattle.terms.specs.declared.tasks.Part.the-variants.{Start}
+use Rattle.reading.specs.declared.parts.Part.the-variants.{Start}
 use Rattle.terms.specs.declared.tasks.Task.the-variants.{Parameters}
-use Rattle.terms.specs.Reading.{item}
+use Rattle.reading.specs.Reading.{item}
 use Rattle.terms.specs.Tasks.{Opens, term-first}
 use Rattle.terms.proofs.Opening.{opened}
 use Rattle.terms.proofs.check.open_parameters.Needs as need

@@ -1,7 +1,7 @@
 use mathlib.Core.Path.{sym, subst}
 use lib.ListN.{take}
 use Rattle.syntax.specs.Tables.{declared-in}
-use Rattle.terms.specs.Reading.{item}
+use Rattle.reading.specs.Reading.{item}
 use Rattle.terms.specs.Tasks.{Steps}
 use Rattle.terms.proofs.check.read.Needs as need
 

@@ -4,7 +4,7 @@ use native.Mathlib.Omega.{arith}
 use Rattle.std.proofs.shelf.Lists.{nil-from-length}
 use Rattle.syntax.specs.Typing.{params-of, each-of}
 use Rattle.syntax.specs.Tables.{declared-in}
-use Rattle.terms.specs.Reading.{starts}
+use Rattle.reading.specs.Reading.{starts}
 use Rattle.terms.proofs.check.read_function.Needs as need
 
 pub returns-then-size-eq0 : need.returns-then-size-eq0

@@ -6,9 +6,9 @@ use native.Mathlib.Nat.{add-zero}
 use native.Mathlib.Omega.{arith}
 use Rattle.std.specs.declared.result.Result.the-variants.{Err}
 use Rattle.syntax.specs.Tables.{declared-in}
-use Rattle.terms.specs.declared.tasks.Part.the-variants.{Start}
+use Rattle.reading.specs.declared.parts.Part.the-variants.{Start}
 use Rattle.terms.specs.declared.tasks.Task.the-variants.{One}
-use Rattle.terms.specs.Reading.{item, reads}
+use Rattle.reading.specs.Reading.{item, reads}
 use Rattle.terms.specs.Tasks.{stack-of, Pile}
 use Rattle.terms.proofs.Piles.{pushed, raised, some}
 use Rattle.terms.proofs.Checking.{answer, refused-at, goes-on, halts, over, ends, lacks}

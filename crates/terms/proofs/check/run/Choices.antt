@@ -2,7 +2,7 @@ use mathlib.Core.Path.{_≡_}
 use Prim.Native.Nat.{_≤_, _+_}
 use lib.ListN.{drop}
 use Rattle.syntax.specs.Tables.{declared-in}
-use Rattle.terms.specs.Reading.{reads, reading, verdict}
+use Rattle.reading.specs.Reading.{reads, reading, verdict}
 use Rattle.terms.specs.Tasks.{Piled, stack-of}
 use Rattle.terms.proofs.Checking.{answer}
 use Rattle.terms.proofs.check.run.Given as given
