@@ -16,7 +16,7 @@ use Rattle.syntax.specs.Typing.{Sig, Profile, cases-of}
 use Rattle.syntax.specs.Values.{Shallow, OfType, of-type, Value}
 use Rattle.syntax.specs.Least.{least-of}
 use Rattle.syntax.specs.Problems.{Function}
-use Rattle.terms.proofs.Tables.{no-list, no-datatype, constructor-at}
+use Rattle.reading.proofs.Tables.{no-list, no-datatype, constructor-at}
 use Rattle.depths.proofs.Entries.{cases-at}
 use Rattle.depths.proofs.Leasts.{least-is-least}
 use Rattle.ends.specs.Ends.{hop}

@@ -10,9 +10,9 @@ use borrow.Author.Tests.{lt-ltb}
 use Rattle.std.proofs.shelf.Lists.{getD-drop, length-drop, length-set, length-replicate}
 use Rattle.syntax.specs.Terms.{Term, Terms, var, unknown, con, call, case, both, not, equal, t[], _t∷_, encode, encodes}
 use Rattle.syntax.specs.Typing.{Sig, Want, want, each-of, branches-of, AllTyped, constructors, arguments, params-of, cases-of}
-use Rattle.terms.specs.Reading.{tag-of}
+use Rattle.reading.specs.Reading.{tag-of}
 use Rattle.ends.specs.Ends.{hop, hops, end-at, at-most, filled, ends-of, nth, parts-in, wants-in, head-in, StandsAt, PartsStand}
-use Rattle.ends.proofs.Ending.{ends-give-parts}
+use Rattle.ends.proofs.Ending.{ends-give-parts, within}
 use Rattle.ends.proofs.Filling.{ends-stand}
 use Rattle.problem.specs.declared.view.View.{View}
 use Rattle.problem.specs.declared.view.View.the-variants.{Nothing}
@@ -123,9 +123,31 @@ ends-long sig bytes (suc k) =
     length-set (filled sig bytes k) (length bytes - suc k) (at-most (length bytes) (end-at sig bytes (filled sig bytes k) (length bytes - suc k)))
     ∙ ends-long sig bytes k
 
+encode-some : (t : Term) → 0 < length (encode t)
+encode-some (var v) = omega arith
+encode-some (unknown k) = omega arith
+encode-some (con t c ts) = omega arith
+encode-some (call f ts) = omega arith
+encode-some (case t u us) = omega arith
+encode-some (both a b) = omega arith
+encode-some (not a) = omega arith
+encode-some (equal t a b) = omega arith
+
 -- with the table of ends, each view shows the term at its place
 pub views-show : (sig : Sig) (bytes : List ℕ) (p : ℕ) (v : View) → v ≡ view-at sig bytes (ends-of sig bytes) p → Shows-all sig bytes (ends-of sig bytes) p v
 views-show sig bytes p v e =
     let next = ends-of sig bytes in
     subst (Shows-all sig bytes next p) (sym e)
     (shows sig bytes next (ends-give-parts sig bytes next (ends-stand sig bytes) (ends-long sig bytes (length bytes))) p)
+
+-- and the table leads past a term that stands
+pub comes-after : (sig : Sig) (bytes : List ℕ) (p q : ℕ) → q ≡ hop (ends-of sig bytes) p → (w : Want) (t : Term) → StandsAt sig bytes p w t → q ≡ p + length (encode t)
+comes-after sig bytes p q e w t st =
+    let next = ends-of sig bytes in
+    let all = ends-long sig bytes (length bytes) in
+    let from : 0 ≤ p = omega arith in
+    let to = ends-stand sig bytes p from (w .scope) (w .ty) t (st .others) (st .has) (st .is) in
+    let room = within bytes p t (st .others) (st .is) in
+    let some = encode-some t in
+    let low : p < length next = omega arith in
+    e ∙ ap (λ b. cond b (getD next p 0) p) (lt-ltb p (length next) low) ∙ to

@@ -5,7 +5,7 @@ use lib.ListN.{length}
 use Rattle.syntax.specs.Terms.{Term}
 use Rattle.syntax.specs.Typing.{Sig}
 use Rattle.syntax.specs.Problems.{Function, Problem, sig-of, concat, encode-type, encode-function, encode-unknown, encode-goal}
-use Rattle.records.specs.Tabled.{places-of}
+use Rattle.tables.specs.Tabled.{places-of}
 use Rattle.verdict.specs.Verdict.{decoded}
 
 -- the problem that the bytes are; the empty one where they are refused

@@ -7,9 +7,9 @@ use lib.Dec.{ltb}
 use lib.ListN.{length, getD}
 use Rattle.syntax.specs.Terms.{Term, Terms, var, unknown, con, call, case, both, not, equal, t[], _t∷_}
 use Rattle.syntax.specs.Typing.{Sig, Want, want, each-of, branches-of, Declared, constructors, arguments, params-of, result-of, cases-of, Stands}
-use Rattle.terms.specs.declared.tasks.Tag.{Tag}
-use Rattle.terms.specs.declared.tasks.Tag.the-variants as tag
-use Rattle.terms.specs.Reading.{tag-of}
+use Rattle.reading.specs.declared.parts.Tag.{Tag}
+use Rattle.reading.specs.declared.parts.Tag.the-variants as tag
+use Rattle.reading.specs.Reading.{tag-of}
 use Rattle.ends.specs.Ends.{hop, StandsAt}
 use Rattle.problem.specs.declared.view.View.{View}
 use Rattle.problem.specs.declared.view.View.the-variants.{Variable, Unknown, Constructor, Call, Case, And, Not, Equal, Nothing}

@@ -2,23 +2,22 @@
 ghost use mathlib.Core.Path.{_≡_};
 ghost use Prim.Native.Nat.{_+_, _<_};
 ghost use lib.ListN.{length, getD};
-ghost use Rattle.syntax.specs.Terms.{var};
-ghost use Rattle.syntax.specs.Typing.{want, constructors as constructors-of, arguments as arguments-of, params-of, result-of};
+ghost use Rattle.syntax.specs.Typing.{constructors as constructors-of, arguments as arguments-of, params-of, result-of};
 ghost use Rattle.syntax.specs.Tables.{listed, declared-in};
 ghost use Rattle.syntax.specs.Least.{least-of, need-of};
 ghost use Rattle.ends.specs.Ends.{hop};
+ghost use Rattle.verdict.specs.Exact.{Encodes};
 ghost use Rattle.problem.specs.Layout.{body-places, goal-places};
-ghost use Rattle.problem.specs.Meant.{held, meant, sig, ends};
+ghost use Rattle.problem.specs.Meant.{held, meant, sig, ends, Body-stands, Goal-stands, Comes-after};
 ghost use Rattle.problem.specs.Views.{view-by, view-at, Shows-all};
 use crate::problem::Problem;
 use crate::view::View;
+use reading::lookup;
+use reading::lookup::cases;
+use reading::lookup::size;
+use reading::parts::Tag;
 use syntax::tables::Signature;
 use syntax::tables::TypeList;
-use terms::check::tag;
-use terms::lookup;
-use terms::lookup::cases;
-use terms::lookup::size;
-use terms::tasks::Tag;
 
 // The least depth that stands for a type without a value no deeper than 8.
 const NO_VALUE: u8 = 9;
@@ -43,9 +42,10 @@ impl Problem {
         }
     }
 
-    // The bytes of the problem.
+    // The bytes of the problem: the encoding of what it means, which is lawful.
     pub fn bytes(&self) -> &[u8]
-        ensures { λ r. ⌜ now r ≡ held (now (self .entry)) ⌝ }
+        ensures is { λ r. ⌜ now r ≡ held (now (self .entry)) ⌝ }
+        ensures encodes { λ r. ⌜ Encodes (meant (now (self .entry))) (now r) ⌝ }
     {
         self.bytes.as_slice()
     }
@@ -129,7 +129,8 @@ impl Problem {
 
     // The place of a function's body, the end of the bytes where there is no such function.
     pub fn body(&self, f: u8) -> usize
-        ensures { λ r. ⌜ r ≡ getD (body-places (meant (now (self .entry)))) f (length (held (now (self .entry)))) ⌝ }
+        ensures is { λ r. ⌜ r ≡ getD (body-places (meant (now (self .entry)))) f (length (held (now (self .entry)))) ⌝ }
+        ensures stands { λ r. ⌜ Body-stands (now (self .entry)) f r ⌝ }
     {
         if (f as usize) < self.functions.len() {
             self.functions[f as usize].body.start
@@ -154,7 +155,8 @@ impl Problem {
 
     // The place of a goal's term, the end of the bytes where there is no such goal.
     pub fn goal(&self, g: usize) -> usize
-        ensures { λ r. ⌜ r ≡ getD (goal-places (meant (now (self .entry)))) g (length (held (now (self .entry)))) ⌝ }
+        ensures is { λ r. ⌜ r ≡ getD (goal-places (meant (now (self .entry)))) g (length (held (now (self .entry)))) ⌝ }
+        ensures stands { λ r. ⌜ Goal-stands (now (self .entry)) g r ⌝ }
     {
         if g < self.goals.len() {
             self.goals[g].start
@@ -165,7 +167,8 @@ impl Problem {
 
     // The place after the term that stands at a place.
     pub fn after(&self, place: usize) -> usize
-        ensures { λ r. ⌜ r ≡ hop (ends (now (self .entry))) place ⌝ }
+        ensures is { λ r. ⌜ r ≡ hop (ends (now (self .entry))) place ⌝ }
+        ensures after { λ r. ⌜ Comes-after (now (self .entry)) place r ⌝ }
     {
         if place < self.next.len() {
             self.next[place] as usize
@@ -231,7 +234,7 @@ impl Problem {
         ensures shows { λ r. ⌜ Shows-all (sig (now (self .entry))) (held (now (self .entry))) (ends (now (self .entry))) place r ⌝ }
     {
         if place < self.bytes.len() {
-            self.view_by(place, tag(self.byte(place)))
+            self.view_by(place, Tag::of(self.byte(place)))
         } else {
             View::Nothing
         }

@@ -7,7 +7,7 @@ use Rattle.std.specs.Of.Vec.{vec-items}
 use Rattle.std.proofs.shelf.Lists.{getD-past}
 use Rattle.syntax.specs.Tables.{listed}
 use Rattle.syntax.specs.Typing.{cases-of}
-use Rattle.terms.proofs.Tables.{no-list, no-datatype}
+use Rattle.reading.proofs.Tables.{no-list, no-datatype}
 use Rattle.problem.specs.Meant.{sig}
 use Rattle.problem.proofs.Tables.{type-there, arguments-there}
 use Rattle.problem.proofs.problem.Problem.arguments.Needs as need

@@ -7,7 +7,7 @@ use Rattle.std.specs.Of.Vec.{vec-items}
 use Rattle.std.proofs.shelf.Lists.{getD-default}
 use Rattle.syntax.specs.Tables.{listed}
 use Rattle.syntax.specs.Typing.{Profile, no-profile}
-use Rattle.terms.proofs.Tables.{no-callable}
+use Rattle.reading.proofs.Tables.{no-callable}
 use Rattle.problem.specs.Meant.{meant}
 use Rattle.problem.proofs.Tables.{read-map, past-map, part-at}
 use Rattle.problem.proofs.problem.Problem.params.Needs as need

@@ -4,8 +4,8 @@ use Prim.Native.Nat.{ℕ, _+_, _<_, _≤_}
 use lib.ListN.{length, getD}
 use native.Mathlib.Omega.{arith}
 use borrow.Author.Tests.{lt-ltb, le-ltb}
-use Rattle.terms.specs.declared.tasks.Tag.{Tag}
-use Rattle.terms.specs.Reading.{tag-of}
+use Rattle.reading.specs.declared.parts.Tag.{Tag}
+use Rattle.reading.specs.Reading.{tag-of}
 use Rattle.problem.specs.declared.view.View.the-variants.{Nothing}
 use Rattle.problem.specs.Meant.{held, sig, ends}
 use Rattle.problem.specs.Views.{view-by, view-at}
@@ -20,7 +20,7 @@ returns-then-place-len c =
     let low : q < length (held p) = omega arith in
     let by = λ (g : Tag). view-by (sig p) (ends p) q g (getD (held p) (q + 1) 0) (getD (held p) (q + 2) 0) in
     let is : c .view-by .result ≡ view-at (sig p) (held p) (ends p) q =
-    c .view-by .ensures ∙ ap by (c .tag .ensures) ∙ ap (λ b. by (tag-of b)) (c .byte .ensures)
+    c .view-by .ensures ∙ ap by (c .of .ensures) ∙ ap (λ b. by (tag-of b)) (c .byte .ensures)
     ∙ sym (ap (λ b. cond b (by (tag-of (getD (held p) q 0))) Nothing) (lt-ltb q (length (held p)) low)) in
     record { is = is; shows = views-show (sig p) (held p) q (c .view-by .result) is }
 
