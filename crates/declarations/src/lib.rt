@@ -12,7 +12,7 @@ use syntax::tables::Signature;
 use syntax::tables::TypeList;
 
 // The types in a list.
-fn types_in(list: &TypeList) -> &[u8]
+pub fn types_in(list: &TypeList) -> &[u8]
     ensures is { λ r. ⌜ now r ≡ listed (now (list .entry)) ⌝ }
     ensures few { λ r. ⌜ length (now r) ≤ 255 ⌝ }
 {

@@ -2,3 +2,5 @@ pub mod Results
 pub mod Bodies
 pub mod Deep
 pub mod Exact
+pub mod Checks
+pub mod Looks

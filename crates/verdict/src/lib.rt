@@ -1,1 +1,3 @@
 // The verdict on bytes: are they a problem, and if not, what is the first fault?
+pub mod terms;
+pub mod types;
