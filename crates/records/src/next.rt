@@ -46,11 +46,7 @@ impl<'a> Reader<'a> {
         if !inside.enter(0x44, 0x54, room)? {
             return Ok(None);
         }
-        let place = inside.at;
-        let count = inside.byte(at)?;
-        if count == 0 || count > MOST_CONSTRUCTORS {
-            return Err(Reason::BadCount.at(place));
-        }
+        let count = inside.count(at, 1, MOST_CONSTRUCTORS)?;
         let constructors = inside.lists(at, count)?;
         *self = inside;
         Ok(Some(TypeRecord {
