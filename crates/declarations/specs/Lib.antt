@@ -1,0 +1,2 @@
+pub mod Mentions
+pub mod Undeclared

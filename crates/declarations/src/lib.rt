@@ -1,0 +1,2 @@
+// Type numbers outside terms that name no type.
+pub mod undeclared;
