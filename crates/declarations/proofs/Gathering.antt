@@ -1,5 +1,5 @@
 -- The tables mention the types that the records mention, at the same places. Assumes nothing.
-use mathlib.Core.Path.{_≡_, refl, sym, ap, _∙_, subst}
+use mathlib.Core.Path.{_≡_, refl, sym, ap, _∙_}
 use mathlib.Core.List.{List, [], _∷_, _++_, map}
 use Prim.Native.Nat.{ℕ, zero, suc, _+_, _*_, _≤_, _<_}
 use native.Mathlib.Omega.{arith}
@@ -9,9 +9,9 @@ use Rattle.syntax.specs.declared.tables.Datatype.{Datatype}
 use Rattle.syntax.specs.declared.tables.Callable.{Callable}
 use Rattle.syntax.specs.Tables.{cases-in, profile-in}
 use Rattle.syntax.specs.Problems.{bool, concat, encode-type, encode-unknown, encode-end}
-use Rattle.records.specs.Raw.{Raw, Raw-function, write-function, write-goal, write, Within}
+use Rattle.records.specs.Raw.{Raw, Raw-function, write-function, write-goal, Within}
 use Rattle.tables.specs.Tabled.{places-of, mark-at, functions-start, unknowns-start, declared-by, Declares}
-use Rattle.declarations.specs.Mentions.{Mention, in-list, in-type, in-profile, in-function, in-unknown, gathered, mentions}
+use Rattle.declarations.specs.Mentions.{in-list, in-type, in-profile, in-function, in-unknown, gathered, mentions}
 use Rattle.declarations.specs.Undeclared.{first-unnamed, undeclared-in, in-types, in-functions, in-unknowns}
 
 first-is : {A : Type 0} {x y : A} {xs ys : List A} → _≡_ {A = List A} (x ∷ xs) (y ∷ ys) → x ≡ y

@@ -1,21 +1,20 @@
 -- No number is undeclared exactly if every type is declared. Assumes nothing.
-use mathlib.Core.Path.{_≡_, refl, sym, ap, _∙_, subst}
+use mathlib.Core.Path.{_≡_, refl, _∙_}
 use mathlib.Core.Bool.{Bool, true, false, cond}
 use mathlib.Core.List.{List, [], _∷_, _++_}
-use Prim.Native.Nat.{ℕ, _+_, _≤_, _<_}
+use Prim.Native.Nat.{ℕ, _+_, _<_}
 use native.Mathlib.Omega.{arith}
 use lib.Dec.{ltb}
 use lib.ListN.{length}
 use Rattle.std.proofs.shelf.Tests.{ltb-true, lt-ltb, cond-true}
-use Rattle.std.specs.declared.option.Option.{Option}
 use Rattle.std.specs.declared.option.Option.the-variants.{None, Some}
 use Rattle.syntax.specs.Typing.{Declared}
 use Rattle.syntax.specs.Problems.{Each, Few-types, Lawful-type, encode-type, encode-unknown}
-use Rattle.records.specs.Raw.{Raw, Raw-function, write-function, Few, Within}
+use Rattle.records.specs.Raw.{Raw-function, write-function}
 use Rattle.tables.specs.Tabled.{functions-start, unknowns-start, declared-by}
 use Rattle.tables.proofs.RecordKinds.{each-left, each-right}
-use Rattle.declarations.specs.Mentions.{Mention, in-list, in-lists, in-type, in-profile, in-function, in-unknown, gathered, mentions}
-use Rattle.declarations.specs.Undeclared.{first-unnamed, undeclared-in, All-declared, None-undeclared, Undeclared-exact}
+use Rattle.declarations.specs.Mentions.{Mention, in-list, in-lists, in-type, in-function, in-unknown, gathered, mentions}
+use Rattle.declarations.specs.Undeclared.{first-unnamed, Undeclared-exact}
 
 each-map : {A : Type 0} {P Q : A → Type 0} → ((x : A) → P x → Q x) → (xs : List A) → Each P xs → Each Q xs
 each-map f [] h = tt

@@ -12,7 +12,7 @@ use Rattle.syntax.specs.declared.tables.Callable.{Callable}
 use Rattle.syntax.specs.Tables.{cases-in, profile-in}
 use Rattle.syntax.specs.Typing.{Declared}
 use Rattle.syntax.specs.Problems.{Each, Few-types, Lawful-type}
-use Rattle.records.specs.Raw.{Raw, Raw-function, Within}
+use Rattle.records.specs.Raw.{Raw, Within}
 use Rattle.tables.specs.Tabled.{declared-by}
 use Rattle.declarations.specs.Mentions.{Mention, in-list, in-type, in-profile, mentions}
 

@@ -7,7 +7,7 @@ use native.Mathlib.Omega.{arith}
 use lib.Dec.{leb}
 use lib.ListN.{length, take, drop}
 use Rattle.std.proofs.shelf.Lists.{take-append-drop, length-take-le}
-use Rattle.std.proofs.shelf.Tests.{and-parts, leb-true, leb-false}
+use Rattle.std.proofs.shelf.Tests.{and-parts, leb-true}
 use Rattle.std.specs.declared.result.Result.{Result}
 use Rattle.std.specs.declared.result.Result.the-variants.{Ok, Err}
 use Rattle.syntax.specs.declared.faults.Fault.{Fault}

@@ -1,15 +1,10 @@
 // The next record of each kind, in the format's order. A refusal leaves the reader as it was.
 ghost use mathlib.Core.Path.{_≡_};
-ghost use mathlib.Core.Bool.{true, false};
-ghost use mathlib.Core.List.{_++_, _∷_};
-ghost use Prim.Native.Nat.{ℕ, _+_, _≤_, _<_};
-ghost use lib.ListN.{length};
-ghost use Rattle.std.specs.Vec.{made};
 ghost use Rattle.syntax.specs.Problems.{encode-type, encode-unknown};
 ghost use Rattle.records.specs.Raw.{write-function, write-goal};
 ghost use Rattle.records.specs.Reading.{type-of, function-of, byte-of, part-of, end-of};
 ghost use Rattle.records.specs.Next.{next};
-ghost use Rattle.records.specs.Readers.{ahead-of, Takes, Hands, Enters};
+ghost use Rattle.records.specs.Readers.{ahead-of, Hands, Enters};
 ghost use Rattle.records.specs.Handed.{cases-held, function-held, Type-held, Function-held, Goal-held};
 use crate::reader::FunctionRecord;
 use crate::reader::GoalRecord;

@@ -1,7 +1,6 @@
 // The parts of which records are made. Each call takes the place of the record's mark, where a record that goes past the end is refused.
 ghost use mathlib.Core.Path.{_≡_};
 ghost use mathlib.Core.List.{_++_};
-ghost use Prim.Native.Nat.{ℕ};
 ghost use Rattle.std.specs.Vec.{made};
 ghost use Rattle.syntax.specs.Problems.{encode-part};
 ghost use Rattle.records.specs.Reading.{byte-of, bytes-of, list-of, lists-of, part-of, starts as starts-with};

@@ -1,4 +1,4 @@
-use mathlib.Core.Path.{_≡_, sym, ap, _∙_}
+use mathlib.Core.Path.{sym, _∙_}
 use Rattle.declarations.proofs.Firsts.{no-function, functions-named, functions-found, functions-end}
 use Rattle.declarations.proofs.undeclared.first_in_functions.Needs as need
 

@@ -1,4 +1,4 @@
-use mathlib.Core.Path.{_≡_, sym, ap, _∙_}
+use mathlib.Core.Path.{sym, _∙_}
 use Rattle.declarations.proofs.Firsts.{no-type, types-named, types-found, types-end}
 use Rattle.declarations.proofs.undeclared.first_in_types.Needs as need
 

@@ -1,7 +1,7 @@
-use mathlib.Core.Path.{_≡_, sym, ap, _∙_}
+use mathlib.Core.Path.{sym, _∙_}
 use Prim.Native.Nat.{_<_, _≤_}
 use native.Mathlib.Omega.{arith}
-use lib.ListN.{length, getD}
+use lib.ListN.{getD}
 use Rattle.declarations.proofs.Firsts.{unknowns-named, unknowns-found, unknowns-end}
 use Rattle.declarations.proofs.undeclared.first_in_unknowns.Needs as need
 

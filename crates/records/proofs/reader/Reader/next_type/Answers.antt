@@ -1,5 +1,5 @@
-use mathlib.Core.Path.{_≡_, refl, sym, ap, _∙_}
-use mathlib.Core.List.{_∷_, _++_}
+use mathlib.Core.Path.{refl, ap, _∙_}
+use mathlib.Core.List.{_∷_}
 use Rattle.records.specs.Reading.{type-of}
 use Rattle.records.specs.Readers.{ahead-of}
 use Rattle.records.proofs.Nexts.{went-in, next-some, type-from, type-written}
