@@ -53,9 +53,9 @@ module _ (sig : Signature) (start : ℕ) (raw : Raw) (h : Declares raw (sig .typ
   pub types-fine : None ≡ first-from (length (sig .types .now)) (of-tables sig start) → Inhabited (declared-in sig) → Ok tt ≡ types-in raw
   types-fine e i =
       let low : deep raw ≡ None =
-        deep-none (declared-by raw) 1 (raw .types) 0
-        (λ k l. let d : 1 + k < length (bool ∷ raw .types) = omega arith in
-          shallow-low (declared-by raw) (1 + k) (subst (λ s. (t : ℕ) → Declared s t → Shallow s t 8) same-declared i (1 + k) d)) in
+      deep-none (declared-by raw) 1 (raw .types) 0
+      (λ k l. let d : 1 + k < length (bool ∷ raw .types) = omega arith in
+      shallow-low (declared-by raw) (1 + k) (subst (λ s. (t : ℕ) → Declared s t → Shallow s t 8) same-declared i (1 + k) d)) in
       ap (λ o. unless o NoValue (Ok tt)) (sym low) ∙ all-known e
 
   bool-shallow : Shallow (declared-by raw) 0 8
@@ -69,7 +69,7 @@ module _ (sig : Signature) (start : ℕ) (raw : Raw) (h : Declares raw (sig .typ
       deep-first (declared-by raw) 1 (raw .types) 0 k (omega arith)
       (λ l. n (low-shallow (declared-by raw) (suc k) (subst (λ t. least-of (declared-by raw) t ≤ 8) e l)))
       (λ j l. let q : suc j ≡ 1 + j = omega arith in
-        subst (λ t. least-of (declared-by raw) t ≤ 8) q (shallow-low (declared-by raw) (suc j) (f (suc j) (omega arith))))
+      subst (λ t. least-of (declared-by raw) t ≤ 8) q (shallow-low (declared-by raw) (suc j) (f (suc j) (omega arith))))
 
   pub types-deep : None ≡ first-from (length (sig .types .now)) (of-tables sig start) → (t : ℕ) → First-without (declared-in sig) (Some t) → (d : Datatype)
       → Err (fault NoValue (getD (sig .types .now) t d .at)) ≡ types-in raw
@@ -79,5 +79,5 @@ module _ (sig : Signature) (start : ℕ) (raw : Raw) (h : Declares raw (sig .typ
       let low : t < length (sig .types .now) = let a = v .0 in omega arith in
       let at = deep-at t (v .0) (v .1) (v .2) in
       let here : getD (sig .types .now) t d .at ≡ getD (0 ∷ places-of mark-at encode-type 0 (raw .types)) t 0 =
-        sym (getD-map (λ x. x .at) (sig .types .now) t d 0 low) ∙ ap (λ xs. getD xs t 0) (h .types-at) in
+      sym (getD-map (λ x. x .at) (sig .types .now) t d 0 low) ∙ ap (λ xs. getD xs t 0) (h .types-at) in
       ap (λ p. unless (Some p) NoValue (Ok tt)) here ∙ (ap (λ o. unless o NoValue (Ok tt)) (sym at) ∙ all-known e)

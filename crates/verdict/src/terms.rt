@@ -16,7 +16,12 @@ use terms::check::check_term;
 use terms::tasks::Task;
 
 // Checks the body of a function.
-fn check_body(bytes: &[u8], sig: Signature, function: &Callable, tasks: &mut [Task]) -> Result<(), Fault>
+fn check_body(
+    bytes: &[u8],
+    sig: Signature,
+    function: &Callable,
+    tasks: &mut [Task],
+) -> Result<(), Fault>
     requires inside { ⌜ Inside (now bytes) (now function .body) ⌝ }
     requires few { ⌜ length (listed (now function .params)) ≤ 64 ⌝ }
     requires room { ⌜ length (now bytes) + 1 ≤ length (now tasks) ⌝ }
@@ -24,7 +29,14 @@ fn check_body(bytes: &[u8], sig: Signature, function: &Callable, tasks: &mut [Ta
 {
     let start = function.body.start;
     let body = &bytes[start..start + function.body.len];
-    check_term(body, start, sig, types_in(&function.params), function.result, tasks)
+    check_term(
+        body,
+        start,
+        sig,
+        types_in(&function.params),
+        function.result,
+        tasks,
+    )
 }
 
 fn check_bodies(bytes: &[u8], sig: Signature, tasks: &mut [Task]) -> Result<(), Fault>
@@ -49,7 +61,12 @@ fn check_goal(bytes: &[u8], sig: Signature, goal: &Span, tasks: &mut [Task]) -> 
     check_term(term, start, sig, &[], 0, tasks)
 }
 
-fn check_goals(bytes: &[u8], sig: Signature, goals: &[Span], tasks: &mut [Task]) -> Result<(), Fault>
+fn check_goals(
+    bytes: &[u8],
+    sig: Signature,
+    goals: &[Span],
+    tasks: &mut [Task],
+) -> Result<(), Fault>
     requires fit { ⌜ Fit-goals (now bytes) (now goals) ⌝ }
     requires room { ⌜ length (now bytes) + 1 ≤ length (now tasks) ⌝ }
     ensures { λ r. ⌜ r ≡ fault-of (goals-by (declared-in (sig .entry)) (now (bytes .entry)) (now (goals .entry))) ⌝ }
@@ -61,7 +78,12 @@ fn check_goals(bytes: &[u8], sig: Signature, goals: &[Span], tasks: &mut [Task])
 }
 
 // Checks all the terms.
-pub fn check_terms(bytes: &[u8], sig: Signature, goals: &[Span], tasks: &mut [Task]) -> Result<(), Fault>
+pub fn check_terms(
+    bytes: &[u8],
+    sig: Signature,
+    goals: &[Span],
+    tasks: &mut [Task],
+) -> Result<(), Fault>
     requires functions { ⌜ Fit-functions (now bytes) (sig .functions .now) ⌝ }
     requires goals { ⌜ Fit-goals (now bytes) (now goals) ⌝ }
     requires room { ⌜ length (now bytes) + 1 ≤ length (now tasks) ⌝ }

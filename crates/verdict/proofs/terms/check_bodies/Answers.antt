@@ -12,13 +12,14 @@ returns-in-Break-check-body c =
     let p = err-from-errBy (c .from-residual .result) (c .from-residual .ensures .1) in
     p .1 ∙ (ap Err (p .2) ∙ sym (c .loop-function .inv .0
     ∙ body-refused (declared-in (c .args .sig)) (c .args .bytes .now) (c .args .sig .functions .now) (c .loop-function .function-index) no-callable (c .loop-function-test .taken)
-      (c .in-Break-check-body .field-0 .0) (c .in-Break-check-body .ensures tt)))
+    (c .in-Break-check-body .field-0 .0) (c .in-Break-check-body .ensures tt)))
 
 pub loop-function-again : need.loop-function-again
-loop-function-again c =
-    (c .loop-function .inv .0
-    ∙ body-passed (declared-in (c .args .sig)) (c .args .bytes .now) (c .args .sig .functions .now) (c .loop-function .function-index) no-callable (c .loop-function-test .taken) (c .in-Continue-check-body .ensures tt),
-    let same = c .check-body .kept .tasks in let long = c .loop-function .inv .1 in omega arith)
+loop-function-again c = (
+  c .loop-function .inv .0
+      ∙ body-passed (declared-in (c .args .sig)) (c .args .bytes .now) (c .args .sig .functions .now) (c .loop-function .function-index) no-callable (c .loop-function-test .taken) (c .in-Continue-check-body .ensures tt),
+  let same = c .check-body .kept .tasks in let long = c .loop-function .inv .1 in omega arith,
+)
 
 pub returns : need.returns
 returns c =

@@ -9,5 +9,5 @@ use Rattle.verdict.proofs.terms.check_bodies.Given as given
 abbrev pub Inv-loop-function : given.InvT-loop-function
 Inv-loop-function l =
     (fault-of (bodies-by (declared-in (l .sig)) (l .bytes) (l .sig .functions .now))
-      ≡ fault-of (bodies-by (declared-in (l .sig)) (l .bytes) (drop (l .function-index) (l .sig .functions .now))))
+    ≡ fault-of (bodies-by (declared-in (l .sig)) (l .bytes) (drop (l .function-index) (l .sig .functions .now))))
     × (length (l .bytes) + 1 ≤ length (l .tasks))

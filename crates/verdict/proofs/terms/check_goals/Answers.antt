@@ -11,13 +11,14 @@ returns-in-Break-check-goal c =
     let p = err-from-errBy (c .from-residual .result) (c .from-residual .ensures .1) in
     p .1 ∙ (ap Err (p .2) ∙ sym (c .loop-goal .inv .0
     ∙ goal-refused (declared-in (c .args .sig)) (c .args .bytes .now) (c .args .goals .now) (c .loop-goal .goal-index) no-span (c .loop-goal-test .taken)
-      (c .in-Break-check-goal .field-0 .0) (c .in-Break-check-goal .ensures tt)))
+    (c .in-Break-check-goal .field-0 .0) (c .in-Break-check-goal .ensures tt)))
 
 pub loop-goal-again : need.loop-goal-again
-loop-goal-again c =
-    (c .loop-goal .inv .0
-    ∙ goal-passed (declared-in (c .args .sig)) (c .args .bytes .now) (c .args .goals .now) (c .loop-goal .goal-index) no-span (c .loop-goal-test .taken) (c .in-Continue-check-goal .ensures tt),
-    let same = c .check-goal .kept .tasks in let long = c .loop-goal .inv .1 in omega arith)
+loop-goal-again c = (
+  c .loop-goal .inv .0
+      ∙ goal-passed (declared-in (c .args .sig)) (c .args .bytes .now) (c .args .goals .now) (c .loop-goal .goal-index) no-span (c .loop-goal-test .taken) (c .in-Continue-check-goal .ensures tt),
+  let same = c .check-goal .kept .tasks in let long = c .loop-goal .inv .1 in omega arith,
+)
 
 pub returns : need.returns
 returns c =

@@ -16,7 +16,7 @@ pub returns-in-Some-least-depths : need.returns-in-Some-least-depths
 returns-in-Some-least-depths c =
     record {
       exact =
-        λ raw h. ap Err (c .at-in-Some-least-depths .ensures)
+          λ raw h. ap Err (c .at-in-Some-least-depths .ensures)
           ∙ types-deep (c .args .sig) (c .args .start) raw h (c .in-rest .ensures tt) (c .in-Some-least-depths .t) (c .in-Some-least-depths .ensures tt .first) no-type;
       leasts = λ e. never-ok e;
     }
