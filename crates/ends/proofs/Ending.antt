@@ -2,7 +2,7 @@
 use mathlib.Core.Path.{_≡_, refl, sym, ap, _∙_, subst}
 use mathlib.Core.Bool.{cond}
 use mathlib.Core.Logic.{⊎-elim}
-use mathlib.Core.List.{List, [], _∷_, _++_, append-assoc, map}
+use mathlib.Core.List.{List, [], _∷_, _++_, append-assoc}
 use Prim.Native.Nat.{ℕ, zero, suc, _<_, _≤_, _+_, _-_}
 use lib.ListN.{length, getD, drop, set}
 use native.Mathlib.Nat.{add-zero}
@@ -11,7 +11,7 @@ use borrow.Author.Tests.{lt-ltb}
 use Rattle.std.proofs.shelf.Lists.{drop-drop, drop-at, getD-drop, length-append, length-drop, length-map, append-nil, getD-set-same, getD-set-other}
 use Rattle.std.proofs.shelf.Tests.{cases-eq}
 use Rattle.syntax.specs.Terms.{Term, Terms, var, unknown, con, call, case, both, not, equal, t[], _t∷_, encode, encodes}
-use Rattle.syntax.specs.Typing.{Sig, Want, want, HasType, Typed, AllTyped, each-of, branches-of, arguments, params-of, cases-of}
+use Rattle.syntax.specs.Typing.{Sig, Want, want, Typed, AllTyped, each-of, branches-of, arguments, params-of, cases-of}
 use Rattle.ends.specs.Ends.{Ends, hop, hops, end-by, end-at, parts-in, wants-in, head-in, nth, StandsAt, Ends-give-parts}
 
 pub hops-step : (next : List ℕ) (m q : ℕ) → 0 < m → hops next m q ≡ hops next (m - 1) (hop next q)

@@ -1,15 +1,14 @@
 -- The table of ends, filled from the right: each entry lies past its place, so it rests on later entries alone. Assumes nothing.
 use mathlib.Core.Path.{_≡_, refl, sym, ap, _∙_, subst}
 use mathlib.Core.Logic.{⊎-elim}
-use mathlib.Core.Bool.{Bool, true, false, cond}
-use mathlib.Core.List.{List, [], _∷_, _++_}
+use mathlib.Core.Bool.{cond}
+use mathlib.Core.List.{List}
 use Prim.Native.Nat.{ℕ, zero, suc, _<_, _≤_, _+_, _-_}
 use lib.Dec.{ltb}
-use lib.ListN.{length, getD, set, replicate}
+use lib.ListN.{length, getD, set}
 use native.Mathlib.Omega.{arith}
-use borrow.Author.Tests.{lt-ltb, le-ltb}
 use Rattle.std.proofs.shelf.Lists.{length-set, length-replicate, getD-set-same, getD-set-other, getD-past, ext-getD}
-use Rattle.std.proofs.shelf.Tests.{cases-eq, cases-lt, cond-both, ltb-true, ltb-false}
+use Rattle.std.proofs.shelf.Tests.{cases-eq, cond-both, ltb-true, ltb-false}
 use Rattle.reading.specs.declared.parts.Tag.{Tag}
 use Rattle.reading.specs.declared.parts.Tag.the-variants.{Variable, Unknown, Constructor, Call, Case, And, Not, Equal, Other}
 use Rattle.reading.specs.Reading.{tag-of}

@@ -5,9 +5,9 @@ use Prim.Native.Nat.{ℕ, _≤_}
 use lib.ListN.{length}
 use native.Mathlib.Omega.{arith}
 use Rattle.syntax.specs.Terms.{Term, Terms, var, unknown, con, call, case, both, not, equal, t[], _t∷_}
-use Rattle.syntax.specs.Typing.{Sig, HasType, Typed, AllTyped, each-of, arguments}
+use Rattle.syntax.specs.Typing.{Sig, Typed, AllTyped, each-of, arguments}
 use Rattle.syntax.specs.Values.{Value, Values, build, v[], _v∷_, OfType, OfTypes, of-type, of[], _of∷_, as-term, as-terms, OnlyBuilt, AllBuilt}
-use Rattle.ends.specs.Laws.{ValuesAsTerms, Values-are-terms}
+use Rattle.ends.specs.Laws.{Values-are-terms}
 
 module _ (sig : Sig) (s : List ℕ) (few : length s ≤ 64) where
   mutual

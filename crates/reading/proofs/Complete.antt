@@ -1,19 +1,18 @@
 -- The bytes of a typed term are read as that term. Assumes nothing.
 use mathlib.Core.Path.{_≡_, refl, sym, ap, _∙_, subst}
-use mathlib.Core.Bool.{Bool, true, false, cond, _&&_}
+use mathlib.Core.Bool.{Bool, true, cond, _&&_}
 use mathlib.Core.List.{List, [], _∷_, _++_, append-assoc}
-use Prim.Native.Nat.{ℕ, zero, suc, _<_, _≤_, _+_}
+use Prim.Native.Nat.{ℕ, suc, _≤_, _+_}
 use lib.Dec.{leb}
 use lib.ListN.{length}
 use borrow.Author.Tests.{lt-ltb, le-leb, eq-eqb}
 use Rattle.std.proofs.shelf.Tests.{and-from}
-use Rattle.std.specs.declared.result.Result.{Result}
 use Rattle.std.specs.declared.result.Result.the-variants.{Ok, Err}
 use Rattle.reading.specs.declared.parts.Part.{Part}
 use Rattle.reading.specs.declared.parts.Part.the-variants.{Start, WhichVariable, WhichUnknown, OwnType, WhichConstructor, WhichFunction, SubjectType, SidesType}
 use Rattle.syntax.specs.Terms.{Term, Terms, var, unknown, con, call, case, both, not, equal, t[], _t∷_, encode, encodes}
-use Rattle.syntax.specs.Typing.{Sig, Want, Typed, AllTyped, Stands, each-of, arguments, params-of, cases-of, branches-of, result-of}
-use Rattle.reading.specs.Reading.{Item, item, start, starts, begins, tag-of, stands, allowed, asked, makes, made, front, after, reads}
+use Rattle.syntax.specs.Typing.{Sig, Want, Typed, AllTyped, each-of, arguments, params-of, cases-of, branches-of}
+use Rattle.reading.specs.Reading.{Item, item, starts, allowed, asked, makes, made, front, after, reads}
 
 pub record Reads (sig : Sig) (is : List Item) (bs : List ℕ) (us : Terms) : Type 0 where
   pub at : (p : ℕ) → reads sig is bs p ≡ Ok us

@@ -1,8 +1,8 @@
 -- What is read is a typed term with these bytes. Assumes nothing.
 use mathlib.Core.Path.{_≡_, refl, sym, ap, _∙_, subst}
-use mathlib.Core.Bool.{Bool, true, false, cond, _&&_}
+use mathlib.Core.Bool.{Bool, true, false, cond}
 use mathlib.Core.List.{List, [], _∷_, _++_, append-assoc}
-use Prim.Native.Nat.{ℕ, zero, suc, _<_, _≤_, _+_}
+use Prim.Native.Nat.{ℕ, suc, _≤_, _+_}
 use lib.Dec.{eqb, leb}
 use lib.ListN.{length, drop}
 use native.Mathlib.Omega.{arith}
@@ -15,7 +15,7 @@ use Rattle.reading.specs.declared.parts.Tag.{Tag}
 use Rattle.reading.specs.declared.parts.Tag.the-variants.{Variable, Unknown, Constructor, Call, Case, And, Not, Equal, Other}
 use Rattle.reading.specs.declared.parts.Part.{Part}
 use Rattle.reading.specs.declared.parts.Part.the-variants.{Start, WhichVariable, WhichUnknown, OwnType, WhichConstructor, WhichFunction, SubjectType, SidesType}
-use Rattle.syntax.specs.Terms.{Term, Terms, var, unknown, con, call, case, both, not, equal, t[], _t∷_, encode, encodes}
+use Rattle.syntax.specs.Terms.{Term, Terms, var, unknown, con, call, case, both, equal, t[], _t∷_, encode, encodes}
 use Rattle.syntax.specs.Typing.{Sig, Want, Typed, AllTyped, each-of, arguments, params-of, cases-of, branches-of}
 use Rattle.reading.specs.Reading.{Item, item, start, starts, begins, tag-of, tag-asks, tag-makes, allows, asks, allowed, asked, makes, made, first, rest, front, after, reads}
 

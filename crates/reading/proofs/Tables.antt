@@ -1,5 +1,5 @@
 -- What the tables hold, read through what they stand for. Assumes nothing.
-use mathlib.Core.Path.{_≡_, refl, sym, ap, _∙_}
+use mathlib.Core.Path.{_≡_, ap, _∙_}
 use mathlib.Core.List.{List, [], map}
 use Prim.Native.Nat.{ℕ, _<_, _≤_, min}
 use lib.ListN.{length, getD, take}
@@ -8,7 +8,6 @@ use Rattle.std.proofs.shelf.Lists.{length-map, length-take, getD-map, getD-take
 use Rattle.syntax.specs.declared.tables.TypeList.{TypeList}
 use Rattle.syntax.specs.declared.tables.Datatype.{Datatype}
 use Rattle.syntax.specs.declared.tables.Callable.{Callable}
-use Rattle.syntax.specs.declared.tables.Span.{Span}
 use Rattle.syntax.specs.Tables.{listed, cases-in}
 
 -- what a read past the end of a table would give
@@ -33,15 +32,6 @@ constructor-at d c h =
     let low : c < length (take (d .count) (d .constructors)) = simp length-map at h in
     getD-map listed (take (d .count) (d .constructors)) c no-list [] low
     ∙ ap listed (getD-take (d .count) (d .constructors) c no-list (counted d c h .0))
-
--- a type that is listed stands in the array
-pub within : (a : TypeList) (n : ℕ) → n < length (listed a) → (n < a .count) × (n < length (a .types))
-within a n h =
-    let least : n < min (a .count) (length (a .types)) = simp length-take at h in
-    (omega arith, omega arith)
-
-pub type-at : (a : TypeList) (n : ℕ) → n < length (listed a) → getD (a .types) n 0 ≡ getD (listed a) n 0
-type-at a n h = sym (getD-take (a .count) (a .types) n 0 (within a n h .0))
 
 -- past the end of a table there is nothing
 pub past : {X Y : Type 0} (f : X → Y) (xs : List X) (i : ℕ) (d : Y) → length xs ≤ i → getD (map f xs) i d ≡ d

@@ -2,7 +2,7 @@
 -- up to its place. Assumes nothing.
 use mathlib.Core.Path.{_≡_, refl, sym, ap, _∙_, subst}
 use mathlib.Core.List.{List, [], _∷_, _++_}
-use Prim.Native.Nat.{ℕ, _+_, _-_, _<_, _≤_}
+use Prim.Native.Nat.{ℕ, _+_, _-_, _≤_}
 use lib.ListN.{length, getD, take, drop}
 use native.Mathlib.Omega.{arith}
 use Rattle.std.proofs.shelf.Lists.{append-nil, append-assoc, take-append-drop, take-more, drop-more, length-take-le}
@@ -12,8 +12,8 @@ use Rattle.syntax.specs.Terms.{Term, Terms, t[], _t∷_, encode}
 use Rattle.syntax.specs.Typing.{Sig, HasType}
 use Rattle.reading.specs.declared.parts.Part.the-variants.{Start}
 use Rattle.reading.specs.Reading.{item, first, reads, first-read, reading, verdict}
-use Rattle.reading.specs.Verdicts.{OneTerm, Says, ReadsTerms, Reading-is-exact}
-use Rattle.reading.proofs.Complete.{full, Reads}
+use Rattle.reading.specs.Verdicts.{Says, Reading-is-exact}
+use Rattle.reading.proofs.Complete.{full}
 use Rattle.reading.proofs.Sound.{sound}
 use Rattle.reading.proofs.Early.{between, early}
 

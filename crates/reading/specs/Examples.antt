@@ -1,10 +1,10 @@
 -- Readings, computed: one or more for each rule on where a term is refused. Assumes nothing.
 use mathlib.Core.Path.{_≡_, refl}
-use mathlib.Core.List.{List, [], _∷_, _++_, map}
+use mathlib.Core.List.{List, [], _∷_, _++_}
 use Prim.Native.Nat.{ℕ}
 use lib.ListN.{replicate}
 use Rattle.std.specs.declared.result.Result.the-variants.{Ok, Err}
-use Rattle.syntax.specs.Terms.{Term, Terms, var, unknown, con, call, case, both, not, equal, t[], _t∷_, encode}
+use Rattle.syntax.specs.Terms.{Term, var, unknown, con, call, case, both, not, equal, t[], _t∷_, encode}
 use Rattle.syntax.specs.Typing.{Sig}
 use Rattle.reading.specs.Reading.{reading}
 

@@ -4,7 +4,7 @@ ghost use mathlib.Core.Path.{_≡_};
 ghost use mathlib.Core.Bool.{_&&_};
 ghost use mathlib.Core.List.{[]};
 ghost use lib.Dec.{ltb, eqb};
-ghost use Prim.Native.Nat.{_<_, _≤_};
+ghost use Prim.Native.Nat.{_<_};
 ghost use lib.ListN.{length, getD};
 ghost use Rattle.syntax.specs.Typing.{cases-of, arguments, params-of, result-of};
 ghost use Rattle.reading.specs.Reading.{stands};
@@ -13,10 +13,21 @@ use syntax::tables::Datatype;
 use syntax::tables::Signature;
 use syntax::tables::TypeList;
 
+// The types of a list.
+pub fn types_of(list: &TypeList) -> &[u8]
+    ensures { λ r. ⌜ now r ≡ listed (now (list .entry)) ⌝ }
+{
+    let types: &[u8] = &list.types;
+    if (list.count as usize) < types.len() {
+        &types[0..list.count as usize]
+    } else {
+        types
+    }
+}
+
 // How many types a list has.
 pub fn size(list: &TypeList) -> u8
-    ensures count { λ r. ⌜ r ≡ length (listed (now (list .entry))) ⌝ }
-    ensures within { λ r. ⌜ r ≤ length (now (list .entry) .types) ⌝ }
+    ensures { λ r. ⌜ r ≡ length (listed (now (list .entry))) ⌝ }
 {
     let types: &[u8] = &list.types;
     if (list.count as usize) < types.len() {
@@ -31,7 +42,7 @@ pub fn type_at(list: &TypeList, i: u8) -> u8
     requires { ⌜ i < length (listed (now list)) ⌝ }
     ensures { λ r. ⌜ r ≡ getD (listed (now (list .entry))) i 0 ⌝ }
 {
-    let types: &[u8] = &list.types;
+    let types = types_of(list);
     types[i as usize]
 }
 

@@ -1,17 +1,17 @@
 -- What the definitions of reading say where bytes stand and where they lack. Assumes nothing.
 use mathlib.Core.Path.{_≡_, refl, sym, ap, _∙_}
-use mathlib.Core.Bool.{Bool, true, false, cond, _&&_}
+use mathlib.Core.Bool.{Bool, true, false, _&&_}
 use mathlib.Core.List.{List, [], _∷_}
-use Prim.Native.Nat.{ℕ, suc, _+_, _-_, _≤_, _<_}
+use Prim.Native.Nat.{ℕ, _+_, _-_, _≤_, _<_}
 use native.Mathlib.Omega.{arith}
 use lib.Dec.{eqb, leb}
 use lib.ListN.{length, getD, take, drop}
 use Rattle.std.proofs.shelf.Lists.{at-drop-more, at-drop-all, drop-drop, length-drop}
 use Rattle.std.proofs.shelf.Tests.{true≢false, false≢true, le-leb, lt-leb, cond-true, cond-false}
-use Rattle.std.specs.declared.result.Result.the-variants.{Ok, Err}
+use Rattle.std.specs.declared.result.Result.the-variants.{Err}
 use Rattle.syntax.specs.declared.faults.Reason.the-variants.{PastEnd}
 use Rattle.syntax.specs.Faults.{fault}
-use Rattle.records.specs.Reading.{Read, read, byte-of, bytes-of, starts}
+use Rattle.records.specs.Reading.{read, byte-of, bytes-of, starts}
 
 -- a part of two tests, told by the first
 pub both-then : (x y s : Bool) → s ≡ (x && y) → x ≡ true → y ≡ s

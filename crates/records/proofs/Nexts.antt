@@ -1,28 +1,28 @@
 -- The next record: its mark stands, and then what its kind reads. Assumes nothing.
 use mathlib.Core.Path.{_≡_, refl, sym, ap, _∙_, subst}
-use mathlib.Core.Bool.{Bool, true, false, cond, _&&_}
+use mathlib.Core.Bool.{Bool, true, false, _&&_}
 use mathlib.Core.List.{List, [], _∷_, _++_, append-assoc}
-use mathlib.Core.Logic.{_⊎_, inl, inr, ⊎-elim}
+use mathlib.Core.Logic.{_⊎_, ⊎-elim}
 use Prim.Native.Nat.{ℕ, zero, suc, _+_, _-_, _≤_, _<_}
 use native.Mathlib.Omega.{arith}
 use lib.Dec.{eqb, leb}
 use lib.ListN.{length, take, drop}
-use Rattle.std.proofs.shelf.Lists.{length-append, drop-drop, length-drop, take-append-drop, length-take-le}
+use Rattle.std.proofs.shelf.Lists.{length-append, drop-drop, take-append-drop, length-take-le}
 use Rattle.std.proofs.shelf.Tests.{true≢false, false≢true, and-parts, and-from, eqb-true, le-leb, lt-leb, cond-true, cond-false, cases-lt}
 use Rattle.std.specs.declared.option.Option.the-variants.{None, Some}
 use Rattle.std.specs.declared.result.Result.{Result}
 use Rattle.std.specs.declared.result.Result.the-variants.{Ok, Err}
 use Rattle.syntax.specs.declared.faults.Fault.{Fault}
-use Rattle.syntax.specs.declared.faults.Reason.the-variants.{PastEnd, BadCount, NoMark, BytesAfter}
+use Rattle.syntax.specs.declared.faults.Reason.the-variants.{BadCount, BytesAfter}
 use Rattle.syntax.specs.Faults.{fault}
 use Rattle.syntax.specs.Problems.{concat, encode-list, encode-type, encode-part}
 use Rattle.records.specs.Raw.{Raw-function, write-function}
 use Rattle.records.specs.Reading.{Read, read, and-then, byte-of, list-of, lists-of, type-of, part-of, function-of, starts, end-of}
 use Rattle.records.specs.declared.reader.Reader.{Reader}
-use Rattle.records.specs.Readers.{ahead-of, Enters}
+use Rattle.records.specs.Readers.{Enters}
 use Rattle.records.specs.Next.{next, lists-in, Lists}
 use Rattle.records.proofs.Heads.{starts-lacks}
-use Rattle.records.proofs.Sound.{byte-sound, list-sound}
+use Rattle.records.proofs.Sound.{byte-sound}
 
 -- a mark that stands is the first two bytes
 pub starts-sound : (a b : ℕ) (xs : List ℕ) → starts a b xs ≡ true → xs ≡ a ∷ (b ∷ drop 2 xs)

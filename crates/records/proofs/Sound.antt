@@ -7,7 +7,7 @@ use native.Mathlib.Omega.{arith}
 use lib.Dec.{leb}
 use lib.ListN.{length, take, drop}
 use Rattle.std.proofs.shelf.Lists.{take-append-drop, length-take-le}
-use Rattle.std.proofs.shelf.Tests.{leb-true, leb-false}
+use Rattle.std.proofs.shelf.Tests.{and-parts, leb-true}
 use Rattle.std.specs.declared.result.Result.{Result}
 use Rattle.std.specs.declared.result.Result.the-variants.{Ok, Err}
 use Rattle.syntax.specs.declared.faults.Fault.{Fault}
@@ -15,7 +15,8 @@ use Rattle.syntax.specs.declared.faults.Reason.the-variants.{PastEnd, BadCount}
 use Rattle.syntax.specs.Faults.{fault}
 use Rattle.syntax.specs.Problems.{encode-list, encode-part}
 use Rattle.records.specs.Raw.{Few}
-use Rattle.records.specs.Reading.{Read, read, byte-of, bytes-of, list-of, part-of}
+use Rattle.records.specs.Next.{count-of}
+use Rattle.records.specs.Reading.{Read, read, and-then, byte-of, bytes-of, list-of, part-of}
 
 -- two answers that are equal were read alike
 pub same-read : {A : Type 0} {r s : Read A} → _≡_ {A = Result (Read A) Fault} (Ok r) (Ok s) → r ≡ s
@@ -29,6 +30,22 @@ byte-sound m [] p e = no-read e
 byte-sound m (x ∷ bs) p e =
     let s = same-read e in
     (ap (λ r. r .value ∷ r .rest) s, sym (ap (λ r. r .at) s))
+
+pub count-sound : {n q : ℕ} {rest : List ℕ} (low high m : ℕ) (bs : List ℕ) (p : ℕ) → count-of low high m bs p ≡ read n rest q → (byte-of m bs p ≡ read n rest q) × (low ≤ n) × (n ≤ high)
+count-sound {n} {q} {rest} low high m bs p e = by (byte-of m bs p) e
+  where
+    test : (r : Read ℕ) (t : Bool) → (leb low (r .value) && leb (r .value) high) ≡ t → cond t (Ok r) (Err (fault BadCount p)) ≡ read n rest q →
+        (Ok r ≡ read n rest q) × (low ≤ n) × (n ≤ high)
+    test r false h e = no-read e
+    test r true h e =
+        let s = ap (λ z. z .value) (same-read e) in
+        let both = and-parts (leb low (r .value)) (leb (r .value) high) h in
+        (e, subst (λ k. low ≤ k) s (leb-true low (r .value) (both .0)), subst (λ k. k ≤ high) s (leb-true (r .value) high (both .1)))
+
+    by : (d : Result (Read ℕ) Fault) → and-then d (λ r. cond (leb low (r .value) && leb (r .value) high) (Ok r) (Err (fault BadCount p))) ≡ read n rest q →
+        (d ≡ read n rest q) × (low ≤ n) × (n ≤ high)
+    by (Err f) e = no-read e
+    by (Ok r) e = test r (leb low (r .value) && leb (r .value) high) refl e
 
 pub bytes-sound : {x rest : List ℕ} {q : ℕ} (m n : ℕ) (bs : List ℕ) (p : ℕ) → bytes-of m n bs p ≡ read x rest q → (bs ≡ x ++ rest) × (length x ≡ n) × (q ≡ p + n)
 bytes-sound {x} {rest} {q} m n bs p e = by (leb n (length bs)) refl e

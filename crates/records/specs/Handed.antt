@@ -1,9 +1,9 @@
 -- What the records that a reader hands out stand for. Assumes nothing.
 use mathlib.Core.Path.{_≡_}
-use mathlib.Core.List.{List}
+use mathlib.Core.List.{List, _∷_, _++_}
 use Prim.Native.Nat.{ℕ, _+_, _≤_}
 use lib.ListN.{length}
-use Rattle.records.specs.Raw.{Raw-function, Few}
+use Rattle.records.specs.Raw.{Raw-function, write-function, Few}
 use Rattle.records.specs.Next.{lists-in, Lists}
 use Rattle.records.specs.declared.reader.TypeRecord.{TypeRecord}
 use Rattle.records.specs.declared.reader.FunctionRecord.{FunctionRecord}
@@ -21,6 +21,13 @@ pub record Type-held (m : ℕ) (x : TypeRecord) : Type 0 where
   pub some : 1 ≤ x .count
   pub few : x .count ≤ 16
   pub lists : Lists (x .count) (x .constructors .now)
+
+-- a function record with its mark at m, read from the bytes bs behind the mark, of which the first stands at p; the rest is left
+pub record Function-read (m p : ℕ) (bs : List ℕ) (x : FunctionRecord) (rest : List ℕ) : Type 0 where
+  pub marked : x .at ≡ m
+  pub few : Few (x .params .now)
+  pub starts : x .start ≡ p + (4 + length (x .params .now))
+  pub written : 0x46 ∷ (0x4E ∷ bs) ≡ write-function (function-held x) ++ rest
 
 -- a function record with its mark at m: its body stands behind the mark, the parameters with their count, the result and the length
 pub record Function-held (m : ℕ) (x : FunctionRecord) : Type 0 where

@@ -1,8 +1,9 @@
 -- The next record of a kind, and lists of types as bytes. Assumes nothing.
 use mathlib.Core.Path.{_≡_}
-use mathlib.Core.Bool.{cond}
+use mathlib.Core.Bool.{cond, _&&_}
 use mathlib.Core.List.{List, [], _∷_}
 use Prim.Native.Nat.{ℕ, zero, suc, _+_, _≤_}
+use lib.Dec.{leb}
 use lib.ListN.{length, take, drop}
 use Rattle.std.specs.declared.option.Option.{Option}
 use Rattle.std.specs.declared.option.Option.the-variants.{None, Some}
@@ -11,7 +12,11 @@ use Rattle.std.specs.declared.result.Result.the-variants.{Ok, Err}
 use Rattle.syntax.specs.declared.faults.Fault.{Fault}
 use Rattle.syntax.specs.declared.faults.Reason.the-variants.{BadCount}
 use Rattle.syntax.specs.Faults.{fault}
-use Rattle.records.specs.Reading.{Read, and-then, starts}
+use Rattle.records.specs.Reading.{Read, and-then, byte-of, starts}
+
+-- a count within its limits
+abbrev pub count-of : (low high m : ℕ) → List ℕ → ℕ → Result (Read ℕ) Fault
+count-of low high m bs p = and-then (byte-of m bs p) (λ r. cond (leb low (r .value) && leb (r .value) high) (Ok r) (Err (fault BadCount p)))
 
 -- The next record with the mark a b, or none where that mark does not stand. With room for no more, it is one too many, at its mark.
 abbrev pub next : {A : Type 0} → (ℕ → List ℕ → ℕ → Result (Read A) Fault) → (a b room : ℕ) → List ℕ → ℕ → Result (Option (Read A)) Fault

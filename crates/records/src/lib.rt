@@ -1,4 +1,4 @@
 // Reads the records of a problem one after another.
 pub mod next;
-pub mod parts;
+mod parts;
 pub mod reader;

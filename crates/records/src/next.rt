@@ -1,16 +1,12 @@
 // The next record of each kind, in the format's order. A refusal leaves the reader as it was.
 ghost use mathlib.Core.Path.{_≡_};
-ghost use mathlib.Core.Bool.{true, false};
-ghost use mathlib.Core.List.{_++_, _∷_};
-ghost use Prim.Native.Nat.{ℕ, _+_, _≤_, _<_};
-ghost use lib.ListN.{length};
 ghost use Rattle.std.specs.Vec.{made};
 ghost use Rattle.syntax.specs.Problems.{encode-type, encode-unknown};
 ghost use Rattle.records.specs.Raw.{write-function, write-goal};
 ghost use Rattle.records.specs.Reading.{type-of, function-of, byte-of, part-of, end-of};
 ghost use Rattle.records.specs.Next.{next};
 ghost use Rattle.records.specs.Readers.{ahead-of, Takes, Hands, Enters};
-ghost use Rattle.records.specs.Handed.{cases-held, function-held, Type-held, Function-held, Goal-held};
+ghost use Rattle.records.specs.Handed.{cases-held, function-held, Type-held, Function-read, Function-held, Goal-held};
 use crate::reader::FunctionRecord;
 use crate::reader::GoalRecord;
 use crate::reader::Reader;
@@ -46,11 +42,7 @@ impl<'a> Reader<'a> {
         if !inside.enter(0x44, 0x54, room)? {
             return Ok(None);
         }
-        let place = inside.at;
-        let count = inside.byte(at)?;
-        if count == 0 || count > MOST_CONSTRUCTORS {
-            return Err(Reason::BadCount.at(place));
-        }
+        let count = inside.count(at, 1, MOST_CONSTRUCTORS)?;
         let constructors = inside.lists(at, count)?;
         *self = inside;
         Ok(Some(TypeRecord {
@@ -60,27 +52,37 @@ impl<'a> Reader<'a> {
         }))
     }
 
-    // The next function record.
-    pub fn next_function(&mut self, room: usize) -> Result<Option<FunctionRecord<'a>>, Fault>
-        ensures { λ r. ⌜ Hands (next function-of 0x46 0x4E room (ahead-of (now (self .entry))) (now (self .entry) .at)) function-held write-function (Function-held (now (self .entry) .at)) (now (self .entry)) (now (self .exit)) r ⌝ }
+    // What stands behind a function's mark.
+    fn function(&mut self, mark: usize) -> Result<FunctionRecord<'a>, Fault>
+        ensures takes { λ r. ⌜ Takes (function-of mark (ahead-of (now (self .entry))) (now (self .entry) .at)) function-held (now (self .entry)) (now (self .exit)) r ⌝ }
+        ensures held { λ r. ⌜ made r (λ x. Function-read mark (now (self .entry) .at) (ahead-of (now (self .entry))) x (ahead-of (now (self .exit)))) ⌝ }
     {
-        let at = self.at;
-        let mut inside = *self;
-        if !inside.enter(0x46, 0x4E, room)? {
-            return Ok(None);
-        }
-        let params = inside.list(at)?;
-        let result = inside.byte(at)?;
-        let body = inside.part(at)?;
-        let start = inside.at - body.len();
-        *self = inside;
-        Ok(Some(FunctionRecord {
-            at,
+        let mut ahead = *self;
+        let params = ahead.list(mark)?;
+        let result = ahead.byte(mark)?;
+        let body = ahead.part(mark)?;
+        let start = ahead.at - body.len();
+        *self = ahead;
+        Ok(FunctionRecord {
+            at: mark,
             params,
             result,
             start,
             body,
-        }))
+        })
+    }
+
+    // The next function record.
+    pub fn next_function(&mut self, room: usize) -> Result<Option<FunctionRecord<'a>>, Fault>
+        ensures { λ r. ⌜ Hands (next function-of 0x46 0x4E room (ahead-of (now (self .entry))) (now (self .entry) .at)) function-held write-function (Function-held (now (self .entry) .at)) (now (self .entry)) (now (self .exit)) r ⌝ }
+    {
+        let mut inside = *self;
+        if !inside.enter(0x46, 0x4E, room)? {
+            return Ok(None);
+        }
+        let found = inside.function(self.at)?;
+        *self = inside;
+        Ok(Some(found))
     }
 
     // The next unknown record.

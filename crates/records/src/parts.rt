@@ -1,11 +1,10 @@
 // The parts of which records are made. Each call takes the place of the record's mark, where a record that goes past the end is refused.
 ghost use mathlib.Core.Path.{_≡_};
 ghost use mathlib.Core.List.{_++_};
-ghost use Prim.Native.Nat.{ℕ};
 ghost use Rattle.std.specs.Vec.{made};
 ghost use Rattle.syntax.specs.Problems.{encode-part};
 ghost use Rattle.records.specs.Reading.{byte-of, bytes-of, list-of, lists-of, part-of, starts as starts-with};
-ghost use Rattle.records.specs.Next.{lists-in, Lists};
+ghost use Rattle.records.specs.Next.{count-of, lists-in, Lists};
 ghost use Rattle.records.specs.Readers.{ahead-of, Takes};
 use crate::reader::Reader;
 use syntax::faults::Fault;
@@ -61,15 +60,25 @@ impl<'a> Reader<'a> {
         Ok(part)
     }
 
+    // A count within these limits.
+    pub(crate) fn count(&mut self, mark: usize, least: u8, most: u8) -> Result<u8, Fault>
+        ensures { λ r. ⌜ Takes (count-of least most mark (ahead-of (now (self .entry))) (now (self .entry) .at)) (λ n. n) (now (self .entry)) (now (self .exit)) r ⌝ }
+    {
+        let mut ahead = *self;
+        let count = ahead.byte(mark)?;
+        if count < least || count > most {
+            return Err(Reason::BadCount.at(self.at));
+        }
+        *self = ahead;
+        Ok(count)
+    }
+
     // A count of at most six, and that many types.
     pub(crate) fn list(&mut self, mark: usize) -> Result<&'a [u8], Fault>
         ensures { λ r. ⌜ Takes (list-of mark (ahead-of (now (self .entry))) (now (self .entry) .at)) (λ p. now p) (now (self .entry)) (now (self .exit)) r ⌝ }
     {
         let mut ahead = *self;
-        let count = ahead.byte(mark)?;
-        if count > MOST_TYPES {
-            return Err(Reason::BadCount.at(self.at));
-        }
+        let count = ahead.count(mark, 0, MOST_TYPES)?;
         let types = ahead.take(mark, usize::from(count))?;
         *self = ahead;
         Ok(types)

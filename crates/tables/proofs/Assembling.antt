@@ -2,7 +2,7 @@
 use mathlib.Core.Path.{_≡_, refl, sym, ap, _∙_, subst}
 use mathlib.Core.Bool.{Bool, true, false, cond}
 use mathlib.Core.List.{List, [], _∷_, _++_, map}
-use Prim.Native.Nat.{ℕ, min, _+_, _≤_, _<_}
+use Prim.Native.Nat.{ℕ, _+_, _≤_, _<_}
 use native.Mathlib.Omega.{arith}
 use lib.Dec.{leb}
 use lib.ListN.{length, getD, take, drop}
@@ -16,14 +16,14 @@ use Rattle.syntax.specs.declared.tables.Datatype.{Datatype}
 use Rattle.syntax.specs.declared.tables.Callable.{Callable}
 use Rattle.syntax.specs.declared.tables.Span.{Span}
 use Rattle.syntax.specs.Tables.{profile-in}
-use Rattle.syntax.specs.Problems.{concat, encode-type, encode-unknown, encode-end}
+use Rattle.syntax.specs.Problems.{concat, encode-type, encode-unknown}
 use Rattle.records.specs.Raw.{Raw, Raw-function, write-function, write-goal, write}
 use Rattle.records.specs.Reading.{read, and-then, many, type-of, function-of, byte-of, part-of, starts, end-of, records}
 use Rattle.records.specs.declared.reader.Reader.{Reader}
 use Rattle.tables.specs.declared.filling.Counts.{Counts}
 use Rattle.records.specs.Readers.{ahead-of}
-use Rattle.tables.specs.Tabled.{places-of, mark-at, body-at, term-at, functions-start, unknowns-start, goals-start, Inside, function-in, Declares, Locates, Tabled}
-use Rattle.tables.specs.Sections.{Section, Filled, Types-held, Functions-held, Unknowns-held, Goals-held}
+use Rattle.tables.specs.Tabled.{places-of, mark-at, functions-start, unknowns-start, goals-start, Inside, function-in, Tabled}
+use Rattle.tables.specs.Sections.{Section, Types-held, Functions-held, Unknowns-held, Goals-held}
 use Rattle.tables.proofs.Exactness.{after-goals, after-unknowns, after-functions, after-types, short-enough, end-sound, within-limits}
 use Rattle.records.proofs.Passed.{place-after}
 

@@ -1,7 +1,7 @@
 -- One entry more in a table. Assumes nothing.
 use mathlib.Core.Path.{_≡_, refl, sym, ap, _∙_, subst}
 use mathlib.Core.List.{List, [], _∷_, _++_, map, append-assoc}
-use Prim.Native.Nat.{ℕ, zero, suc, _+_, _-_, _/_, _%_, _≤_, _<_}
+use Prim.Native.Nat.{ℕ, suc, _+_, _-_, _/_, _%_, _≤_, _<_}
 use native.Mathlib.Nat.{add-zero, add-assoc}
 use native.Mathlib.Omega.{arith}
 use borrow.Author.Count.{below-more}
@@ -13,7 +13,7 @@ use Rattle.syntax.specs.declared.tables.Callable.{Callable}
 use Rattle.syntax.specs.declared.tables.Span.{Span}
 use Rattle.syntax.specs.declared.tables.TypeList.{TypeList}
 use Rattle.syntax.specs.Tables.{listed, cases-in, profile-in}
-use Rattle.syntax.specs.Problems.{bool, concat, encode-list, encode-type, encode-part}
+use Rattle.syntax.specs.Problems.{bool, concat, encode-list, encode-type}
 use Rattle.records.specs.Raw.{Raw-function, write-function, write-goal}
 use Rattle.records.specs.Next.{lists-in, Lists}
 use Rattle.tables.specs.Tabled.{places-of, mark-at, body-at, term-at, part-in, function-in, Inside}

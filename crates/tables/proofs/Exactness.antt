@@ -1,11 +1,11 @@
 -- Reading all records is exact: what was read writes the bytes, and what writes them is read. Assumes nothing.
 use mathlib.Core.Path.{_≡_, refl, sym, ap, _∙_, subst}
-use mathlib.Core.Bool.{Bool, true, false, cond, _&&_}
+use mathlib.Core.Bool.{Bool, true, false, cond}
 use mathlib.Core.List.{List, [], _∷_, _++_, append-assoc}
 use Prim.Native.Nat.{ℕ, zero, suc, _+_, _≤_, _<_}
 use native.Mathlib.Omega.{arith}
 use lib.Dec.{leb}
-use lib.ListN.{length, take, drop}
+use lib.ListN.{length, drop}
 use Rattle.std.proofs.shelf.Tests.{leb-true, le-leb, cond-true, cond-false}
 use Rattle.std.specs.declared.result.Result.{Result}
 use Rattle.std.specs.declared.result.Result.the-variants.{Ok, Err}
@@ -15,7 +15,7 @@ use Rattle.syntax.specs.Faults.{fault}
 use Rattle.syntax.specs.Problems.{Each, concat, encode-type, encode-unknown, encode-end}
 use Rattle.records.specs.Raw.{Raw, Raw-function, write-function, write-goal, write, Within}
 use Rattle.records.specs.Reading.{Read, read, and-then, preceded, type-of, function-of, byte-of, part-of, starts, many, end-of, all-of, records}
-use Rattle.tables.specs.Exact.{Bytes, Read-as, Reading-exact}
+use Rattle.tables.specs.Exact.{Bytes, Reading-exact}
 use Rattle.records.proofs.Sound.{same-read, no-read}
 use Rattle.records.proofs.Nexts.{starts-sound}
 use Rattle.tables.proofs.RecordKinds.{Kind, each-right, type-kind, function-kind, unknown-kind, goal-kind, Fine-type, Fine-function}

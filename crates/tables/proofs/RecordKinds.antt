@@ -5,20 +5,20 @@ use mathlib.Core.List.{List, [], _∷_, _++_, append-assoc}
 use Prim.Native.Nat.{ℕ, zero, suc, _+_, _*_, _/_, _%_, _≤_, _<_}
 use native.Mathlib.Omega.{arith}
 use lib.Dec.{leb}
-use lib.ListN.{length, take, drop}
+use lib.ListN.{length, drop}
 use Rattle.std.proofs.shelf.Lists.{length-append, take-at, drop-at}
 use Rattle.std.proofs.shelf.Tests.{and-parts, and-from, leb-true, le-leb, cond-true}
 use Rattle.std.specs.declared.result.Result.{Result}
 use Rattle.std.specs.declared.result.Result.the-variants.{Ok, Err}
 use Rattle.syntax.specs.declared.faults.Fault.{Fault}
-use Rattle.syntax.specs.declared.faults.Reason.the-variants.{PastEnd, BadCount}
+use Rattle.syntax.specs.declared.faults.Reason.the-variants.{BadCount}
 use Rattle.syntax.specs.Faults.{fault}
 use Rattle.syntax.specs.Problems.{Each, concat, encode-list, encode-part, encode-type, encode-unknown}
 use Rattle.records.specs.Raw.{Raw-function, write-function, write-goal, Few}
 use Rattle.records.specs.Reading.{Read, read, and-then, preceded, byte-of, bytes-of, list-of, lists-of, type-of, part-of, function-of, starts}
 use Rattle.tables.specs.Exact.{Bytes}
 use Rattle.records.proofs.Nexts.{function-from, function-written}
-use Rattle.records.proofs.Sound.{same-read, no-read, byte-sound, bytes-sound, list-sound, part-from}
+use Rattle.records.proofs.Sound.{same-read, no-read, byte-sound, list-sound, part-from}
 
 pub each-left : {A : Type 0} (P : A → Type 0) (xs ys : List A) → Each P (xs ++ ys) → Each P xs
 each-left P [] ys h = tt

@@ -1,6 +1,6 @@
 -- What the tables hold once the records are read: the declarations, where each record and each term stands, and the terms as parts of the bytes. Assumes nothing.
 use mathlib.Core.Path.{_≡_}
-use mathlib.Core.List.{List, [], _∷_, _++_, map}
+use mathlib.Core.List.{List, [], _∷_, map}
 use Prim.Native.Nat.{ℕ, _+_, _<_, _≤_}
 use lib.ListN.{length, getD, take, drop}
 use Rattle.std.specs.declared.result.Result.the-variants.{Ok}
@@ -8,7 +8,7 @@ use Rattle.syntax.specs.declared.tables.Datatype.{Datatype}
 use Rattle.syntax.specs.declared.tables.Callable.{Callable}
 use Rattle.syntax.specs.declared.tables.Span.{Span}
 use Rattle.syntax.specs.Tables.{cases-in, profile-in}
-use Rattle.syntax.specs.Typing.{Sig, Profile}
+use Rattle.syntax.specs.Typing.{Sig}
 use Rattle.syntax.specs.Problems.{bool, concat, encode-type, encode-unknown}
 use Rattle.records.specs.Raw.{Raw, Raw-function, write-function, write-goal, write, Within}
 use Rattle.records.specs.Reading.{records}

@@ -32,7 +32,7 @@ pub struct Counts {
     pub start: usize,
 }
 
-// Fills the tables with what the records hold. On a refusal the tables hold what was read before it.
+// Fills the tables with what the records hold. After a refusal nothing is promised of the tables.
 pub fn read_records(
     bytes: &[u8],
     types: &mut [Datatype],

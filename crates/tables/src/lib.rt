@@ -1,3 +1,3 @@
 // Reads the records of a problem into tables.
 pub mod filling;
-pub mod sections;
+mod sections;

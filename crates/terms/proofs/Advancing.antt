@@ -1,17 +1,15 @@
 -- A byte at a pile of tasks. Assumes nothing.
-use mathlib.Core.Path.{_≡_, refl, sym, ap, _∙_, subst}
+use mathlib.Core.Path.{_≡_, sym, ap, _∙_}
 use mathlib.Core.Bool.{true, false, _&&_}
-use mathlib.Core.List.{List, [], _∷_, _++_, append-assoc}
-use Prim.Native.Nat.{ℕ, _<_, _≤_, _+_, _-_}
-use lib.Dec.{leb}
-use lib.ListN.{length, getD, take, set}
+use mathlib.Core.List.{List, _++_}
+use Prim.Native.Nat.{ℕ, _≤_, _+_, _-_}
+use lib.ListN.{length}
 use borrow.Author.Tests.{lt-leb}
-use native.Mathlib.Omega.{arith}
 use Rattle.terms.specs.declared.tasks.Task.{Task}
 use Rattle.terms.specs.declared.tasks.Opened.{Opened}
-use Rattle.syntax.specs.Typing.{Sig, Want}
-use Rattle.reading.specs.Reading.{Item, item, start, begins, tag-of, allowed, asked}
-use Rattle.terms.specs.Tasks.{cut-of, expand-rest, Fine-rest, Opens, Crowded, stack-of, Pile, Stops, Taken, item-of, Moves, Advances}
+use Rattle.syntax.specs.Typing.{Sig}
+use Rattle.reading.specs.Reading.{Item, start, begins, tag-of, allowed, asked}
+use Rattle.terms.specs.Tasks.{cut-of, expand-rest, Fine-rest, Opens, Crowded, stack-of, Pile, Stops, Taken, item-of, Advances}
 use Rattle.terms.proofs.Piles.{rescoped, raised, Popped}
 
 -- a term of over 64 variables

@@ -13,7 +13,7 @@ use Rattle.syntax.specs.declared.faults.Reason.the-variants.{BadTerm}
 use Rattle.syntax.specs.Faults.{fault}
 use Rattle.syntax.specs.Terms.{Terms}
 use Rattle.syntax.specs.Typing.{Sig}
-use Rattle.reading.specs.Reading.{Item, allowed, asked, made, reads, first-read, verdict}
+use Rattle.reading.specs.Reading.{Item, asked, made, reads, first-read, verdict}
 use Rattle.terms.specs.Tasks.{Stops, Moves}
 
 abbrev pub answer : Result Terms ℕ → Result (Unit {0}) Fault

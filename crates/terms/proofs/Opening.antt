@@ -1,7 +1,7 @@
 -- The first item of a task, and the rest. Assumes nothing.
 use mathlib.Core.Path.{_≡_, refl, sym, ap, _∙_, subst}
 use mathlib.Core.Bool.{Bool, true, false, cond}
-use mathlib.Core.List.{List, [], _∷_, _++_, map}
+use mathlib.Core.List.{List, _∷_, _++_, map}
 use Prim.Native.Nat.{ℕ, _<_, _≤_, _+_}
 use lib.Dec.{ltb}
 use lib.ListN.{length, getD, take, drop}
@@ -13,10 +13,10 @@ use Rattle.terms.specs.declared.tasks.Task.{Task}
 use Rattle.terms.specs.declared.tasks.Task.the-variants.{Case, Branches}
 use Rattle.terms.specs.declared.tasks.Opened.{Opened}
 use Rattle.syntax.specs.Typing.{Sig, Want, want, cases-of}
-use Rattle.reading.specs.Reading.{Item, item, start, starts}
+use Rattle.reading.specs.Reading.{item, start, starts}
 use Rattle.reading.specs.declared.parts.Part.the-variants.{Start}
 use Rattle.std.specs.declared.option.Option.{Option}
-use Rattle.terms.specs.Tasks.{expand, cut-of, Left, Fine, expand-rest, Fine-rest, Opens, term-first}
+use Rattle.terms.specs.Tasks.{expand, cut-of, Left, expand-rest, Fine-rest, Opens, term-first}
 
 rest-is : {X : Type 0} (sig : Sig) (s : List ℕ) (f : X → Want) (xs : List X) (n : ℕ) (y : Task) (b : Bool) → ltb n (length xs) ≡ b
     → expand sig s y ≡ starts (map f (drop n xs)) → starts (map f (drop n xs)) ≡ expand-rest sig s (cond b (Some y) None)

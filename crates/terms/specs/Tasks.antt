@@ -6,8 +6,7 @@ use Prim.Native.Nat.{ℕ, zero, suc, _<_, _≤_, _+_}
 use lib.ListN.{length, getD, take, drop}
 use Rattle.std.specs.declared.option.Option.{Option}
 use Rattle.std.specs.declared.option.Option.the-variants.{Some, None}
-use Rattle.syntax.specs.Typing.{Sig, Want, want, cases-of, arguments, params-of, each-of, branches-of}
-use Rattle.reading.specs.declared.parts.Part.{Part}
+use Rattle.syntax.specs.Typing.{Sig, Want, cases-of, arguments, params-of, each-of, branches-of}
 use Rattle.reading.specs.declared.parts.Part.the-variants.{Start}
 use Rattle.terms.specs.declared.tasks.Task.{Task}
 use Rattle.terms.specs.declared.tasks.Task.the-variants.{One, Two, Arguments, Parameters, Case, Branches}

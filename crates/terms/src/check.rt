@@ -23,6 +23,7 @@ use reading::lookup::is_unknown;
 use reading::lookup::parameters;
 use reading::lookup::size;
 use reading::lookup::type_at;
+use reading::lookup::types_of;
 use reading::parts::Part;
 use reading::parts::Tag;
 use syntax::faults::Fault;
@@ -35,13 +36,13 @@ fn bind(scope: &mut [u8; 64], cut: u8, list: &TypeList) -> Option<u8>
     requires { ⌜ cut ≤ 64 ⌝ }
     ensures { λ r. ⌜ BySome r (64 < cut + length (listed (now (list .entry)))) (λ k. Binds (now (scope .entry)) (now (scope .exit)) cut (listed (now (list .entry))) k) ⌝ }
 {
-    let n = size(list);
-    if n > 64 - cut {
+    let types = types_of(list);
+    if types.len() > 64 - cut as usize {
         return None;
     }
-    let types: &[u8] = &list.types;
-    scope[cut as usize..(cut + n) as usize].copy_from_slice(&types[0..n as usize]);
-    Some(cut + n)
+    let inner = cut + types.len() as u8;
+    scope[cut as usize..inner as usize].copy_from_slice(types);
+    Some(inner)
 }
 
 fn if_any(any: bool, rest: Task) -> Option<Task>

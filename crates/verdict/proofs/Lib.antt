@@ -4,3 +4,5 @@ pub mod Deep
 pub mod Exact
 pub mod Checks
 pub mod Looks
+pub mod Examining
+pub mod Accepting

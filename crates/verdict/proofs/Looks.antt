@@ -26,15 +26,12 @@ use Rattle.declarations.proofs.Tables.{tables-agree}
 use Rattle.depths.specs.Laws.{Inhabited}
 use Rattle.depths.specs.Least.{First-without, Leasts}
 use Rattle.verdict.specs.Verdict.{deep, unless, types-in}
+use Rattle.verdict.proofs.Examining.{declared-same}
 use Rattle.verdict.proofs.Deep.{shallow-low, low-shallow, deep-none, deep-first}
 
 module _ (sig : Signature) (start : ℕ) (raw : Raw) (h : Declares raw (sig .types .now) (sig .functions .now) (sig .unknowns .now) start) where
-  -- the tables declare what the records declare
-  pub same-declared : declared-in sig ≡ declared-by raw
-  same-declared =
-      ap (λ ts. record { types = ts; functions = map profile-in (sig .functions .now); unknowns = sig .unknowns .now }) (h .of-types)
-      ∙ (ap (λ fs. record { types = bool ∷ raw .types; functions = fs; unknowns = sig .unknowns .now }) (h .of-functions)
-      ∙ ap (λ us. record { types = bool ∷ raw .types; functions = map (λ f. f .profile) (raw .functions); unknowns = us }) (h .of-unknowns))
+  same-declared : declared-in sig ≡ declared-by raw
+  same-declared = declared-same raw (sig .types .now) (sig .functions .now) (sig .unknowns .now) start h
 
   same-count : length (sig .types .now) ≡ length (bool ∷ raw .types)
   same-count = sym (length-map (sig .types .now) cases-in) ∙ ap length (h .of-types)

@@ -1,13 +1,13 @@
 use borrow.Author.Needs.{needs}
-use mathlib.Core.Path.{_≡_, refl, sym, ap, _∙_, subst}
-use mathlib.Core.List.{List, [], _∷_, _++_, map}
-use Prim.Native.Nat.{ℕ, suc, _+_, _-_, _<_, _≤_}
+use mathlib.Core.Path.{_≡_, sym, ap, _∙_, subst}
+use mathlib.Core.List.{_++_, map}
+use Prim.Native.Nat.{_+_, _-_, _<_, _≤_}
 use native.Mathlib.Omega.{arith}
 use lib.ListN.{length, take, drop, set, getD}
-use Rattle.std.proofs.shelf.Lists.{length-set, length-take-le, length-drop, append-nil, take-all}
+use Rattle.std.proofs.shelf.Lists.{length-set, length-take-le, length-drop}
 use Rattle.syntax.specs.Tables.{listed}
 use Rattle.records.specs.Next.{lists-in, Lists}
-use Rattle.tables.proofs.Entries.{First-list, list-at, constructor-push}
+use Rattle.tables.proofs.Entries.{list-at, constructor-push}
 use Rattle.tables.proofs.sections.datatype.Needs as need
 
 pub add-end : need.add-end

@@ -5,7 +5,6 @@ use Prim.Native.Nat.{_+_, _-_, _<_, _≤_}
 use native.Mathlib.Omega.{arith}
 use lib.ListN.{length, drop}
 use Rattle.std.proofs.shelf.Results.{err-from-errBy}
-use Rattle.std.specs.declared.option.Option.{Option}
 use Rattle.std.specs.declared.result.Result.the-variants.{Ok}
 use Rattle.records.specs.Raw.{write-goal}
 use Rattle.records.specs.Handed.{Goal-held}
@@ -14,9 +13,9 @@ use Rattle.syntax.specs.Problems.{concat}
 use Rattle.records.specs.Reading.{part-of}
 use Rattle.records.specs.Next.{next}
 use Rattle.records.specs.Readers.{ahead-of, Hands}
-use Rattle.tables.specs.Sections.{Filled, Section}
+use Rattle.tables.specs.Sections.{Section}
 use Rattle.records.proofs.Passed.{place-after}
-use Rattle.tables.proofs.Turns.{Upto, upto-none, upto-more, upto-refused, upto-all}
+use Rattle.tables.proofs.Turns.{upto-none, upto-more, upto-refused, upto-all}
 use Rattle.tables.proofs.Entries.{goals-push, goal-there, goal-inside}
 use Rattle.tables.proofs.sections.fill_goals.Needs as need
 

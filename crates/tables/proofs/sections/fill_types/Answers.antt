@@ -1,11 +1,9 @@
-use borrow.Author.Needs.{needs}
 use mathlib.Core.Path.{_≡_, refl, sym, ap, _∙_, subst}
 use mathlib.Core.List.{[], _∷_, _++_, map}
-use Prim.Native.Nat.{_+_, _-_, _<_, _≤_}
+use Prim.Native.Nat.{_+_, _-_, _<_}
 use native.Mathlib.Omega.{arith}
-use lib.ListN.{length, drop, set, replicate}
+use lib.ListN.{length, set, replicate}
 use Rattle.std.proofs.shelf.Results.{err-from-errBy}
-use Rattle.std.specs.declared.option.Option.{Option}
 use Rattle.std.specs.declared.result.Result.the-variants.{Ok}
 use Rattle.std.proofs.shelf.Lists.{length-set, take-more-set}
 use Rattle.syntax.specs.Tables.{cases-in}
@@ -17,10 +15,10 @@ use Rattle.syntax.specs.Problems.{concat}
 use Rattle.records.specs.Reading.{type-of}
 use Rattle.records.specs.Next.{next}
 use Rattle.records.specs.Readers.{ahead-of, Hands}
-use Rattle.tables.specs.Sections.{Filled, Section, Types-held}
+use Rattle.tables.specs.Sections.{Section, Types-held}
 use Rattle.records.proofs.Passed.{place-after}
-use Rattle.tables.proofs.Turns.{had-room, Upto, upto-none, upto-more, upto-refused, upto-all}
-use Rattle.tables.proofs.Entries.{types-push, map-entry}
+use Rattle.tables.proofs.Turns.{had-room, upto-none, upto-more, upto-refused, upto-all}
+use Rattle.tables.proofs.Entries.{types-push}
 use Rattle.tables.proofs.sections.fill_types.Needs as need
 
 abbrev no-types : TypeList

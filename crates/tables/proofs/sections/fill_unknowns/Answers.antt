@@ -1,8 +1,7 @@
 use borrow.Author.Needs.{needs}
-use mathlib.Core.Path.{_≡_, refl, sym, ap, _∙_, subst}
+use mathlib.Core.Path.{_≡_, refl, sym, ap, subst}
 use mathlib.Core.List.{[], _∷_, _++_}
 use Prim.Native.Nat.{_-_, _<_}
-use native.Mathlib.Omega.{arith}
 use lib.ListN.{length}
 use Rattle.std.proofs.shelf.Results.{err-from-errBy}
 use Rattle.std.specs.declared.result.Result.the-variants.{Ok}
@@ -10,8 +9,8 @@ use Rattle.syntax.specs.Problems.{encode-unknown}
 use Rattle.records.specs.Reading.{byte-of}
 use Rattle.records.specs.Next.{next}
 use Rattle.records.specs.Readers.{ahead-of, Hands}
-use Rattle.tables.specs.Sections.{Filled, Section}
-use Rattle.tables.proofs.Turns.{Upto, upto-none, upto-more, upto-refused, upto-all}
+use Rattle.tables.specs.Sections.{Section}
+use Rattle.tables.proofs.Turns.{upto-none, upto-more, upto-refused, upto-all}
 use Rattle.tables.proofs.Entries.{unknowns-push}
 use Rattle.tables.proofs.sections.fill_unknowns.Needs as need
 

@@ -1,4 +1,4 @@
-use mathlib.Core.Path.{_≡_, ap, _∙_}
+use mathlib.Core.Path.{ap, _∙_}
 use lib.ListN.{length}
 use Rattle.std.proofs.shelf.Lists.{take-at}
 use Rattle.tables.proofs.sections.type_list.Needs as need

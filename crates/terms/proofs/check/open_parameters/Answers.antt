@@ -1,6 +1,6 @@
-use mathlib.Core.Path.{_≡_, refl, sym, ap, _∙_, subst}
+use mathlib.Core.Path.{refl, sym, ap, _∙_, subst}
 use mathlib.Core.Bool.{cond}
-use Prim.Native.Nat.{_<_, _≤_, _+_}
+use Prim.Native.Nat.{_≤_, _+_}
 use lib.Dec.{ltb}
 use lib.ListN.{length, getD, take}
 use native.Mathlib.Omega.{arith}
@@ -31,6 +31,6 @@ returns c s =
     let lo : cut ≤ cut = omega arith in
     subst (Opens sig s s x) (sym (c .opened .ensures))
     (opened sig s s (want (take cut s)) tys 0 next x rest (term-first (c .type-at .result) cut (c .if-any .result)) (c .pre .left) refl refl refl (λ l. l)
-    (c .if-any .ensures ∙ ap (λ k. cond (ltb (next + 1) k) (Some rest) None) (c .size-n .ensures .count ∙ ap length (c .parameters-list .ensures)))
+    (c .if-any .ensures ∙ ap (λ k. cond (ltb (next + 1) k) (Some rest) None) (c .size-n .ensures ∙ ap length (c .parameters-list .ensures)))
     (ap (λ ty. item Start (take cut s) ty) (c .type-at .ensures ∙ ap (λ ts. getD ts next 0) (c .parameters-list .ensures)))
     refl lo (c .pre .few))

@@ -1,4 +1,4 @@
-use mathlib.Core.Path.{_≡_, refl, sym, ap, _∙_}
+use mathlib.Core.Path.{refl, sym}
 use native.Mathlib.Omega.{arith}
 use Rattle.records.proofs.Nexts.{starts-long, entered}
 use Rattle.records.proofs.reader.Reader.enter.Needs as need

@@ -1,8 +1,8 @@
 use borrow.Author.Needs.{needs}
-use mathlib.Core.Path.{_≡_, refl, sym, ap, _∙_}
+use mathlib.Core.Path.{_≡_, ap, _∙_}
 use Prim.Native.Nat.{_+_, _*_, _<_}
 use native.Mathlib.Omega.{arith}
-use Rattle.records.specs.Reading.{bytes-of, read}
+use Rattle.records.specs.Reading.{bytes-of}
 use Rattle.records.specs.Readers.{ahead-of}
 use Rattle.records.proofs.Sound.{part-from}
 use Rattle.records.proofs.reader.Reader.part.Needs as need
