@@ -1,4 +1,6 @@
-pub mod Tables
+pub mod Entries
 pub mod Lawfulness
 pub mod Standing
 pub mod Views
+pub mod Filling
+pub mod Taking
