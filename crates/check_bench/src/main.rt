@@ -45,12 +45,17 @@ fn measure(rt: &LibcRuntime, size: usize, times: u32) -> io::Result<()> {
     let start = Instant::now(rt)?;
     let accepted = repeat(bytes.as_slice(), times);
     let micros = start.elapsed(rt)?.as_micros();
-    let checked = (bytes.len() as u128).saturating_mul(accepted as u128).saturating_mul(1000000);
+    let checked = (bytes.len() as u128)
+        .saturating_mul(accepted as u128)
+        .saturating_mul(1000000);
     if micros == 0 {
         return println!(rt, "{size} bytes, accepted {accepted} times");
     }
     let rate = checked / micros;
-    println!(rt, "{size} bytes, accepted {accepted} times, {rate} bytes a second")
+    println!(
+        rt,
+        "{size} bytes, accepted {accepted} times, {rate} bytes a second"
+    )
 }
 
 fn main(rt: LibcRuntime) -> io::Result<()> {

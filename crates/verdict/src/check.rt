@@ -45,7 +45,15 @@ fn check_with(bytes: &[u8], tasks: &mut [Task]) -> Result<(), Fault>
     let mut unknowns = [0; 16];
     let mut goals = [NOWHERE; 32];
     let mut least = [0; 32];
-    examine(bytes, &mut types, &mut functions, &mut unknowns, &mut goals, &mut least, tasks)?;
+    examine(
+        bytes,
+        &mut types,
+        &mut functions,
+        &mut unknowns,
+        &mut goals,
+        &mut least,
+        tasks,
+    )?;
     Ok(())
 }
 
