@@ -1,1 +1,6 @@
+pub mod Runs
 pub mod Examples
+pub mod Explained
+pub mod Determined
+pub mod Waiting
+pub mod Stays

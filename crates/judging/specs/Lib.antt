@@ -3,3 +3,8 @@ pub mod Judging
 pub mod Paths
 pub mod Assignments
 pub mod Examples
+pub mod Meaning
+pub mod Explained
+pub mod Determined
+pub mod Stays
+pub mod Waiting
