@@ -4,3 +4,5 @@ pub mod Explained
 pub mod Determined
 pub mod Waiting
 pub mod Stays
+pub mod Related
+pub mod Lockstep

@@ -8,3 +8,7 @@ pub mod Explained
 pub mod Determined
 pub mod Stays
 pub mod Waiting
+pub mod Scope
+pub mod Steady
+pub mod Asked
+pub mod Names
