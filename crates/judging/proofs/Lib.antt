@@ -6,3 +6,6 @@ pub mod Waiting
 pub mod Stays
 pub mod Related
 pub mod Lockstep
+pub mod Alone
+pub mod Steady
+pub mod Spent

@@ -75,12 +75,12 @@ module _ {U V : Type 0} (name : U → V) where
       likes-named l[] = refl
       likes-named (p l∷ q) = λ i. like-named p i h∷ likes-named q i
 
-  head-named : {N : ℕ → Type 0} {G D W : U → Type 0} {a : Head U} {b : Head V} → Head-like N (To name G) (To name D) (To name W) a b
+  pub head-named : {N : ℕ → Type 0} {G D W : U → Type 0} {a : Head U} {b : Head V} → Head-like N (To name G) (To name D) (To name W) a b
       → b ≡ named-head name a
   head-named (is-like c p e) = λ i. is c (likes-named p i) (all-to e .1 i)
   head-named (waits-like (to w)) = refl
 
-  verdict-named : {D W : U → Type 0} {a : Verdict U} {b : Verdict V} → Verdict-like (To name D) (To name W) a b
+  pub verdict-named : {D W : U → Type 0} {a : Verdict U} {b : Verdict V} → Verdict-like (To name D) (To name W) a b
       → b ≡ named-verdict name a
   verdict-named (same-like e) = ap same (all-to e .1)
   verdict-named (differ-like e) = ap differ (all-to e .1)
