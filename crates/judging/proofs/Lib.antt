@@ -9,3 +9,6 @@ pub mod Lockstep
 pub mod Alone
 pub mod Steady
 pub mod Spent
+pub mod Scope
+pub mod Asked
+pub mod Names
