@@ -12,3 +12,5 @@ pub mod Spent
 pub mod Scope
 pub mod Asked
 pub mod Names
+pub mod Reached
+pub mod Closed

@@ -12,3 +12,5 @@ pub mod Scope
 pub mod Steady
 pub mod Asked
 pub mod Names
+pub mod Reached
+pub mod Closed
