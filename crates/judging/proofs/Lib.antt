@@ -14,3 +14,4 @@ pub mod Asked
 pub mod Names
 pub mod Reached
 pub mod Closed
+pub mod Truth
