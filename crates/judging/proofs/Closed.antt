@@ -10,7 +10,7 @@ use lib.Dec.{eqb}
 use Rattle.syntax.specs.Terms.{Term, var, unknown, con, call, case, both, not, equal, Terms, t[], _t∷_}
 use Rattle.syntax.specs.Problems.{Problem, sig-of}
 use Rattle.judging.specs.Held.{Held, hold, free, Helds, h[], _h∷_, branch, body-of, bound, holds, frees, _h++_}
-use Rattle.judging.specs.Judging.{Unknowns, Head, is, waits, Verdict, same, differ, wait, Judging, out, give, go-on, _then_, step, Asks, of-unknown, join, negation, and-true, and-waits, join-verdict, after-same, after-wait, truth, after-pair, pairs, by-constructors, after-right, after-left, compared, after-subject, and-right, headed, judges, judge, compare}
+use Rattle.judging.specs.Judging.{Head, is, waits, Verdict, same, differ, wait, Judging, Asks, of-unknown, join, negation, and-true, and-waits, join-verdict, after-same, after-wait, truth, after-pair, pairs, by-constructors, after-right, after-left, compared, after-subject, and-right, headed, judges, judge, compare}
 use Rattle.judging.specs.Paths.{Path, root, child, Decision, children-from, children, under}
 use Rattle.judging.specs.Explained.{All, all[], _all∷_}
 use Rattle.judging.specs.Asked.{_∈_}

@@ -1,17 +1,15 @@
 -- Judging from what is reached, beside judging under a decision that agrees on it. Assumes nothing.
-use mathlib.Core.Path.{_≡_, refl, sym, _∙_, ap, subst}
-use mathlib.Core.List.{List, [], _∷_}
-use mathlib.Core.Bool.{Bool, true, false, _&&_, cond}
+use mathlib.Core.Path.{_≡_, refl, _∙_, ap, subst}
+use mathlib.Core.Bool.{true, cond}
 use mathlib.Core.Option.{Option, none, some, Option·none-ne-some, Option·some-injective}
-use Prim.Native.Nat.{ℕ, zero, suc, _+_, _≤_, _<_}
+use Prim.Native.Nat.{ℕ, zero, suc, _+_, _<_}
 use native.Mathlib.Omega.{arith}
 use native.Mathlib.Nat.{zero-add}
 use lib.ListN.{length}
-use lib.Dec.{eqb}
 use Rattle.std.proofs.shelf.Tests.{eq-eqb}
 use Rattle.syntax.specs.Typing.{arguments}
 use Rattle.syntax.specs.Problems.{Problem, sig-of}
-use Rattle.judging.specs.Held.{Held, hold, free, Helds, h[], _h∷_, body-of}
+use Rattle.judging.specs.Held.{Held, Helds, body-of}
 use Rattle.judging.specs.Judging.{is, waits, judge, compare}
 use Rattle.judging.specs.Paths.{Path, root, child, Decision, type-of, children-from, children, under}
 use Rattle.judging.specs.Explained.{All, all[], _all∷_}

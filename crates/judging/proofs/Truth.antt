@@ -1,23 +1,21 @@
 -- Goals under assignments: both judgements hold under all the assignment's choices, and a goal has one meaning there.
 -- Assumes nothing.
-use mathlib.Core.Path.{_≡_, refl, sym, _∙_, ap, subst}
-use mathlib.Core.List.{List, [], _∷_}
+use mathlib.Core.Path.{_≡_, refl, sym, _∙_, ap}
 use mathlib.Core.Bool.{Bool, true, false, _&&_, cond}
-use mathlib.Core.Option.{Option, none, some, Option·none-ne-some, Option·some-injective}
-use Prim.Native.Nat.{ℕ, zero, suc}
+use mathlib.Core.Option.{Option, none, some, Option·none-ne-some}
+use Prim.Native.Nat.{ℕ}
 use native.Mathlib.Nat.{suc-ne-zero}
 use lib.Dec.{eqb}
 use Rattle.std.proofs.shelf.Tests.{eqb-true, both-ways}
-use Rattle.syntax.specs.Values.{Value, Values, build, v[], _v∷_}
+use Rattle.syntax.specs.Values.{Value, Values, build}
 use Rattle.syntax.specs.Problems.{Problem}
-use Rattle.judging.specs.Held.{Held, Helds, goal}
-use Rattle.judging.specs.Judging.{is, judge}
+use Rattle.judging.specs.Held.{goal}
+use Rattle.judging.specs.Judging.{is}
 use Rattle.judging.specs.Paths.{Path, root, child, Decision, under}
 use Rattle.judging.specs.Meaning.{Yields}
-use Rattle.judging.specs.Explained.{All, all[], _all∷_, Agrees}
-use Rattle.judging.specs.Asked.{_∈_, Decided}
+use Rattle.judging.specs.Explained.{Agrees}
 use Rattle.judging.specs.Reached.{Reached, says, reached?, only-reached}
-use Rattle.judging.specs.Assignments.{nth, argument, part, constructor-of, choice, Among, Judged, Comes-true}
+use Rattle.judging.specs.Assignments.{nth, argument, part, constructor-of, choice, Comes-true}
 use Rattle.judging.specs.Truth.{False-forbids, True-allows, True-means, Choices-reached}
 use Rattle.judging.proofs.Explained.{head-explained}
 use Rattle.judging.proofs.Determined.{one-head, more-decided}

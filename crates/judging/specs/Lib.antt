@@ -15,3 +15,4 @@ pub mod Names
 pub mod Reached
 pub mod Closed
 pub mod Truth
+pub mod Goals

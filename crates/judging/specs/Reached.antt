@@ -1,7 +1,7 @@
 -- Which paths are reached: judging from what is reached meets only what is reached, and no other decision counts.
 -- Assumes nothing.
 use mathlib.Core.Path.{_≡_}
-use mathlib.Core.List.{List, [], _∷_}
+use mathlib.Core.List.{List}
 use mathlib.Core.Bool.{Bool, true, false, _&&_, cond}
 use mathlib.Core.Option.{Option, none, some}
 use Prim.Native.Nat.{ℕ, _<_}
@@ -9,9 +9,9 @@ use lib.ListN.{length}
 use lib.Dec.{eqb}
 use Rattle.syntax.specs.Terms.{Term}
 use Rattle.syntax.specs.Typing.{Sig, arguments}
-use Rattle.syntax.specs.Problems.{Problem, sig-of, Lawful}
+use Rattle.syntax.specs.Problems.{Problem, sig-of}
 use Rattle.judging.specs.Held.{Held, hold, free, Helds, h[], _h∷_, goal}
-use Rattle.judging.specs.Judging.{is, waits, same, differ, judge, compare}
+use Rattle.judging.specs.Judging.{is, waits, judge, compare}
 use Rattle.judging.specs.Paths.{Path, root, child, Decision, type-of, under}
 use Rattle.judging.specs.Explained.{All}
 use Rattle.judging.specs.Asked.{Asked}

@@ -13,6 +13,7 @@ ghost use Rattle.judging.specs.Names.{By-names};
 ghost use Rattle.judging.specs.Reached.{Asked-paths, Stays-reached, Waits-on-reached, Only-reached, Only-reached-compare, Restricted, Goal-reached};
 ghost use Rattle.judging.specs.Closed.{Closed, Closed-compare, Goal-closed};
 ghost use Rattle.judging.specs.Truth.{False-forbids, True-allows, True-means, Choices-reached};
+ghost use Rattle.judging.specs.Goals.{Goal-explains, Goal-waits, Judged-by-names, Awaits-by-names};
 ghost use Rattle.judging.specs.Examples.{Examples};
 
 // A judged head is what the term yields under every decision that agrees on its explanation.
@@ -270,6 +271,34 @@ pub fn true_means_stands() -> u8
 // The choices of an assignment are reached by its choices.
 pub fn choices_reached_stands() -> u8
     ensures { λ _. ⌜ Choices-reached ⌝ }
+{
+    0
+}
+
+// What explains a goal is decided, reached, there, and closed under parents.
+pub fn goal_explains_stands() -> u8
+    ensures { λ _. ⌜ Goal-explains ⌝ }
+{
+    0
+}
+
+// What a goal waits on is undecided, reached, and there.
+pub fn goal_waits_stands() -> u8
+    ensures { λ _. ⌜ Goal-waits ⌝ }
+{
+    0
+}
+
+// A goal judged by numbers is judged by the paths that they name.
+pub fn judged_by_names_stands() -> u8
+    ensures { λ _. ⌜ Judged-by-names ⌝ }
+{
+    0
+}
+
+// A goal that waits by numbers waits on the path that the number names.
+pub fn awaits_by_names_stands() -> u8
+    ensures { λ _. ⌜ Awaits-by-names ⌝ }
 {
     0
 }
