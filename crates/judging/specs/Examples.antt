@@ -2,7 +2,7 @@
 -- Assumes nothing.
 use mathlib.Core.Path.{_≡_}
 use mathlib.Core.List.{[], _∷_}
-use mathlib.Core.Option.{none, some}
+use mathlib.Core.Option.{Option, none, some}
 use Prim.Native.Nat.{ℕ, zero, suc}
 use Rattle.syntax.specs.Terms.{Term, unknown, con, call, case, both, equal, t[], _t∷_, var}
 use Rattle.syntax.specs.Values.{Values, build, v[], _v∷_}
@@ -64,15 +64,24 @@ loops =
 abbrev pub Loops : Type 0
 Loops = (δ : Decision) (s : ℕ) → judge loops (under loops δ) (goal loops 0) s ≡ none
 
-abbrev pub right-false : Decision
-right-false (root zero) = none
-right-false (root (suc zero)) = some 0
-right-false (root (suc (suc k))) = none
-right-false (child u c j) = none
+-- unknowns 0 and 1 as given, and no others decided
+abbrev pub deciding-two : Option ℕ → Option ℕ → Decision
+deciding-two a b (root zero) = a
+deciding-two a b (root (suc zero)) = b
+deciding-two a b (root (suc (suc k))) = none
+deciding-two a b (child u c j) = none
 
--- the left side waits, the right one is false: false, with right's explanation alone
-abbrev pub Right-alone : Type 0
-Right-alone = judge loops (under loops right-false) (goal loops 1) 3 ≡ some (is 0 h[] (root 1 ∷ []), 0)
+-- unknown 0 and unknown 1: left's false is the answer, and right is not asked; right's false has right's explanation alone, where
+-- left is true and where it waits; two trues join; else left's unknown is waited on if left waits
+abbrev pub And-rules : Type 0
+And-rules =
+    (judge loops (under loops (deciding-two (some 0) none)) (goal loops 1) 2 ≡ some (is 0 h[] (root 0 ∷ []), 0))
+    × (judge loops (under loops (deciding-two (some 1) (some 0))) (goal loops 1) 3 ≡ some (is 0 h[] (root 1 ∷ []), 0))
+    × (judge loops (under loops (deciding-two none (some 0))) (goal loops 1) 3 ≡ some (is 0 h[] (root 1 ∷ []), 0))
+    × (judge loops (under loops (deciding-two (some 1) (some 1))) (goal loops 1) 3 ≡ some (is 1 h[] (root 0 ∷ (root 1 ∷ [])), 0))
+    × (judge loops (under loops (deciding-two (some 1) none)) (goal loops 1) 3 ≡ some (waits (root 1), 0))
+    × (judge loops (under loops (deciding-two none (some 1))) (goal loops 1) 3 ≡ some (waits (root 0), 0))
+    × (judge loops (under loops undecided) (goal loops 1) 3 ≡ some (waits (root 0), 0))
 
 abbrev pub true-at-root : Decision
 true-at-root (root k) = some 1
@@ -101,8 +110,8 @@ Next-variables =
     judge predecessor (under predecessor undecided) (hold (call 0 (two t∷ t[])) h[]) 6
     ≡ some (is 1 (hold (con 1 0 t[]) h[] h∷ h[]) [], 0)
 
--- Pairs of natural numbers (type 2), and goals that a pair with an unknown first is another, which the second tells apart, and
--- that it is one which the second does not tell apart.
+-- Pairs of natural numbers (type 2), two unknowns of type 1 and one of type 2, and goals that a pair of the first two is (0, 2)
+-- and that the third is.
 abbrev pub zero-term : Term
 zero-term = con 1 0 t[]
 
@@ -114,17 +123,26 @@ pairings =
     record {
       types = ([] ∷ ((1 ∷ []) ∷ [])) ∷ (((1 ∷ (1 ∷ [])) ∷ []) ∷ []);
       functions = [];
-      unknowns = 1 ∷ [];
-      goals =
-          equal 2 (pair (unknown 0) zero-term) (pair zero-term two)
-          ∷ (equal 2 (pair (unknown 0) zero-term) (pair zero-term zero-term) ∷ []);
+      unknowns = 1 ∷ (1 ∷ (2 ∷ []));
+      goals = equal 2 (pair (unknown 0) (unknown 1)) (pair zero-term two) ∷ (equal 2 (unknown 2) (pair zero-term two) ∷ []);
     }
 
--- Arguments are compared past a waiting pair: a later false one decides, and else the first waiting one is waited on.
-abbrev pub Past-waiting : Type 0
-Past-waiting =
-    (judge pairings (under pairings undecided) (goal pairings 0) 9 ≡ some (is 0 h[] [], 0))
-    × (judge pairings (under pairings undecided) (goal pairings 1) 9 ≡ some (waits (root 0), 0))
+-- the third is decided, and of its arguments only the second, as zero
+abbrev pub third-decided : Decision
+third-decided (root k) = some 0
+third-decided (child u c zero) = none
+third-decided (child u c (suc j)) = some 0
+
+-- Arguments are compared past a waiting pair. A false pair decides, with its own explanation and the two heads', and not that of
+-- the pairs before; else the first waiting pair is waited on.
+abbrev pub Pair-rules : Type 0
+Pair-rules =
+    (judge pairings (under pairings (deciding-two none (some 0))) (goal pairings 0) 9 ≡ some (is 0 h[] (root 1 ∷ []), 0))
+    × (judge pairings (under pairings (deciding-two (some 0) (some 0))) (goal pairings 0) 9 ≡ some (is 0 h[] (root 1 ∷ []), 0))
+    × (judge pairings (under pairings (deciding-two (some 1) none)) (goal pairings 0) 6 ≡ some (is 0 h[] (root 0 ∷ []), 0))
+    × (judge pairings (under pairings (deciding-two (some 0) none)) (goal pairings 0) 9 ≡ some (waits (root 1), 0))
+    × (judge pairings (under pairings undecided) (goal pairings 0) 9 ≡ some (waits (root 0), 0))
+    × (judge pairings (under pairings third-decided) (goal pairings 1) 9 ≡ some (is 0 h[] (root 2 ∷ (child (root 2) 0 1 ∷ [])), 0))
 
 abbrev pub Examples : Type 0
-Examples = Nine-steps × Right-asked × Loops × Right-alone × Left-for-ever × Next-variables × Past-waiting
+Examples = Nine-steps × Right-asked × Loops × And-rules × Left-for-ever × Next-variables × Pair-rules
