@@ -7,9 +7,9 @@ use Prim.Native.Nat.{ℕ, zero, suc}
 use Rattle.syntax.specs.Terms.{Term, unknown, con, call, case, both, equal, t[], _t∷_, var}
 use Rattle.syntax.specs.Values.{Values, build, v[], _v∷_}
 use Rattle.syntax.specs.Problems.{Problem}
-use Rattle.judging.specs.Held.{h[], _h∷_, hold, goal}
+use Rattle.judging.specs.Held.{Held, h[], _h∷_, hold, free, goal}
 use Rattle.judging.specs.Judging.{is, waits, judge}
-use Rattle.judging.specs.Paths.{root, child, Decision, under}
+use Rattle.judging.specs.Paths.{Path, root, child, Decision, under}
 use Rattle.judging.specs.Assignments.{choice}
 
 abbrev pub undecided : Decision
@@ -93,22 +93,29 @@ Left-for-ever =
     (judge loops (under loops undecided) (goal loops 2) 4 ≡ some (is 0 h[] [], 0))
     × ((s : ℕ) → judge loops (under loops true-at-root) (goal loops 2) s ≡ none)
 
--- A branch's variables are the next after those in scope. The predecessor's parameter is variable 0, and so in the branch of
--- the successor its argument is variable 1.
+-- The predecessor of a natural number. A branch's variables are the next after those in scope: the parameter is variable 0, and so
+-- in the branch of the successor its argument is variable 1.
 abbrev pub predecessor : Problem
 predecessor =
     record {
       types = ([] ∷ ((1 ∷ []) ∷ [])) ∷ [];
       functions =
           record { profile = record { params = 1 ∷ []; result = 1 }; body = case 1 (var 0) (var 0 t∷ var 1 t∷ t[]) } ∷ [];
-      unknowns = [];
+      unknowns = 1 ∷ [];
       goals = [];
     }
 
-abbrev pub Next-variables : Type 0
-Next-variables =
-    judge predecessor (under predecessor undecided) (hold (call 0 (two t∷ t[])) h[]) 6
-    ≡ some (is 1 (hold (con 1 0 t[]) h[] h∷ h[]) [], 0)
+abbrev pub predecessor-of : Term → Held Path
+predecessor-of t = hold (call 0 (t t∷ t[])) h[]
+
+-- of 2 it is 1; of the unknown, with 2 assigned to it, it is explained by the subject and the branch; it waits if its subject does
+abbrev pub Case-rules : Type 0
+Case-rules =
+    (judge predecessor (under predecessor undecided) (predecessor-of two) 6
+    ≡ some (is 1 (hold (con 1 0 t[]) h[] h∷ h[]) [], 0))
+    × (judge predecessor (under predecessor (choice twice)) (predecessor-of (unknown 0)) 6
+    ≡ some (is 1 (free (child (child (root 0) 1 0) 1 0) h∷ h[]) (root 0 ∷ (child (root 0) 1 0 ∷ [])), 0))
+    × (judge predecessor (under predecessor undecided) (predecessor-of (unknown 0)) 4 ≡ some (waits (root 0), 0))
 
 -- Pairs of natural numbers (type 2), two unknowns of type 1 and one of type 2, and goals that a pair of the first two is (0, 2)
 -- and that the third is.
@@ -145,4 +152,4 @@ Pair-rules =
     × (judge pairings (under pairings third-decided) (goal pairings 1) 9 ≡ some (is 0 h[] (root 2 ∷ (child (root 2) 0 1 ∷ [])), 0))
 
 abbrev pub Examples : Type 0
-Examples = Nine-steps × Right-asked × Loops × And-rules × Left-for-ever × Next-variables × Pair-rules
+Examples = Nine-steps × Right-asked × Loops × And-rules × Left-for-ever × Case-rules × Pair-rules
