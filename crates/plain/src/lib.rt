@@ -37,7 +37,13 @@ impl Plain {
         let Ok(marks) = Vec::from_slice(heap, &[0u8; 4096]) else {
             return Err(MakeFault::NoMemory);
         };
-        Ok(Plain { row, trail, marks, entries, count: 0 })
+        Ok(Plain {
+            row,
+            trail,
+            marks,
+            entries,
+            count: 0,
+        })
     }
 }
 
@@ -96,7 +102,13 @@ pub impl Chooser for Plain as PlainChooser {
         let n = answer.len();
         let trail = self.trail.as_mut_slice();
         let marks = self.marks.as_mut_slice();
-        if solve(self.row.as_slice(), assumptions, answer, &mut trail[0..n], &mut marks[0..n]) {
+        if solve(
+            self.row.as_slice(),
+            assumptions,
+            answer,
+            &mut trail[0..n],
+            &mut marks[0..n],
+        ) {
             Ok(Answer::Yes)
         } else {
             Ok(Answer::No)
