@@ -1,7 +1,10 @@
 // Reads formulas in the DIMACS form: comment lines that begin with c, a header `p cnf VARIABLES CLAUSES`, and clauses as numbers,
 // each clause ended by 0. A line behind the header that begins with % ends the text.
 ghost use mathlib.Core.Path.{_≡_};
-ghost use Prim.Native.Nat.{ℕ, _-_, _≤_};
+ghost use mathlib.Core.Bool.{cond};
+ghost use lib.Dec.{eqb};
+ghost use lib.IntN.{pos, negsuc};
+ghost use Prim.Native.Nat.{ℕ, _+_, _-_, _≤_};
 ghost use lib.ListN.{length};
 ghost use Rattle.dimacs.specs.Feed.{line-of};
 ghost use Rattle.dimacs.specs.Read.{bad-at, Reads};
@@ -65,4 +68,12 @@ pub fn read(heap: Global, text: &[u8]) -> Result<Formula, ReadError>
         Ok(formula) => Ok(formula),
         Err(kind) => Err(bad(text, last, kind)),
     }
+}
+
+// Returns the number by which a text calls the literal that is true where a variable has a value.
+pub fn true_literal(variable: u16, value: u8) -> i32
+    ensures { λ r. ⌜ r ≡ cond (eqb value 1) (pos (variable + 1)) (negsuc variable) ⌝ }
+{
+    let n = variable as i32 + 1;
+    if value == 1 { n } else { -n }
 }
