@@ -27,10 +27,12 @@ mod tests {
 
     fn allot<C: Chooser>(c: &mut C, n: u16) -> Result<(), Fail> {
         for i in 0..n {
-            check(match c.new_variable() {
-                Ok(v) => v == i,
-                Err(_) => false,
-            })?;
+            check(
+                match c.new_variable() {
+                    Ok(v) => v == i,
+                    Err(_) => false,
+                },
+            )?;
         }
         Ok(())
     }

