@@ -1,12 +1,12 @@
 -- One literal more of a clause that is looked at, and what the whole clause then tells.
-use mathlib.Core.Path.{_≡_, refl, sym, ap, subst, _∙_}
+use mathlib.Core.Path.{_≡_, refl}
 use mathlib.Core.Logic.{_⊎_, inl, inr, ⊎-elim}
 use mathlib.Core.List.{List}
 use mathlib.Core.Bool.{Bool, true, false}
-use Prim.Native.Nat.{ℕ, _+_, _*_, _/_, _≤_, _<_}
+use Prim.Native.Nat.{ℕ, _+_, _≤_}
 use native.Mathlib.Omega.{arith}
 use lib.ListN.{length, getD}
-use Rattle.std.proofs.shelf.Tests.{cases-eq, both-ways}
+use Rattle.std.proofs.shelf.Tests.{both-ways}
 use borrow.Author.Count.{below-more}
 use Rattle.chooser.specs.Ways.{lit, some}
 use Rattle.rows.proofs.Lits.{some-none, some-only}

@@ -1,15 +1,14 @@
 -- One clause more of a pass over the assumptions and clauses, and how the pass ends.
 use mathlib.Core.Path.{_≡_, refl, sym, ap, subst, _∙_}
-use mathlib.Core.Logic.{_⊎_, inl, inr, ⊎-elim}
+use mathlib.Core.Logic.{inr}
 use mathlib.Core.List.{List}
 use mathlib.Core.Bool.{Bool, true, false, _&&_}
-use Prim.Native.Nat.{ℕ, _+_, _-_, _*_, _/_, _≤_, _<_}
+use Prim.Native.Nat.{ℕ, _+_, _/_, _≤_}
 use native.Mathlib.Omega.{arith}
-use lib.ListN.{length, set, take, length-set}
+use lib.ListN.{length, set, length-set}
 use Rattle.std.proofs.shelf.Tests.{and-parts}
 use Rattle.std.specs.Options.{orOther}
 use Rattle.chooser.specs.Ways.{lit, some, written}
-use Rattle.weight.specs.Weight.{weight}
 use Rattle.weight.proofs.Marks.{push-rises}
 use Rattle.backtrack.specs.Values.{Agrees, Opened, bit}
 use Rattle.backtrack.specs.Trail.{Trail, Dead}
@@ -17,7 +16,6 @@ use Rattle.backtrack.specs.Solved.{allowed}
 use Rattle.backtrack.specs.Rest.{rest, Next}
 use Rattle.backtrack.specs.Swept.{Calm, Passing, Swept, Ended}
 use Rattle.backtrack.specs.declared.End.{End}
-use Rattle.backtrack.specs.declared.End.the-variants.{Clash, Moved, Open, Met}
 use Rattle.backtrack.proofs.Trails.{room, trail-push, dead-clash, follows-clause}
 use Rattle.backtrack.proofs.Rest.{rest-start, rest-end}
 use Rattle.std.specs.declared.option.Option.{Option}

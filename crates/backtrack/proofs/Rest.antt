@@ -2,7 +2,7 @@
 use mathlib.Core.Path.{_≡_, refl, sym, ap, subst, _∙_}
 use mathlib.Core.Logic.{⊎-elim}
 use mathlib.Core.List.{List, [], _∷_, _++_}
-use mathlib.Core.Bool.{Bool, true, false, _&&_, _||_, cond, and-assoc, and-comm, or-false}
+use mathlib.Core.Bool.{Bool, true, false, _&&_, and-assoc, and-comm, or-false}
 use Prim.Native.Nat.{ℕ, _+_, _-_, _*_, _≤_, _<_}
 use native.Mathlib.Omega.{arith}
 use lib.Dec.{ltb}
@@ -11,7 +11,7 @@ use Rattle.std.specs.shelf.Lists.{between}
 use Rattle.std.proofs.shelf.Lists.{drop-more, drop-all, drop-drop}
 use Rattle.std.proofs.shelf.Edits.{between-none, between-more}
 use Rattle.std.proofs.shelf.Tests.{cases-lt, cond-true, cond-false, lt-ltb, le-ltb, and-from}
-use Rattle.chooser.specs.Ways.{lit, some, every, allotted}
+use Rattle.chooser.specs.Ways.{lit, some, every}
 use Rattle.rows.specs.Rows.{inside, holds}
 use Rattle.rows.proofs.Lits.{allotted-at}
 use Rattle.rows.proofs.Clauses.{holds-clause, inside-clause, Whole}

@@ -2,18 +2,17 @@
 use mathlib.Core.Path.{_≡_, refl, sym, ap, subst, _∙_}
 use mathlib.Core.Logic.{_≢_, _⊎_, inl, inr, ⊎-elim}
 use mathlib.Core.List.{List}
-use mathlib.Core.Bool.{Bool, true, false, not}
-use Prim.Native.Nat.{ℕ, zero, suc, _+_, _-_, _*_, _/_, _%_, _≤_, _<_}
+use mathlib.Core.Bool.{Bool, true, false}
+use Prim.Native.Nat.{ℕ, zero, suc, _+_, _*_, _/_, _≤_, _<_}
 use native.Mathlib.Omega.{arith}
 use lib.Dec.{eqb, ltb}
-use lib.ListN.{length, getD, set, take, length-set}
+use lib.ListN.{length, getD, set, length-set}
 use lib.Seq.{getD-set-same, getD-set-other}
-use Rattle.std.proofs.shelf.Tests.{cases-eq, cases-lt, cases-bool, not-from-false, both-ways}
+use Rattle.std.proofs.shelf.Tests.{cases-eq, cases-lt, not-from-false, both-ways}
 use Rattle.chooser.specs.Ways.{lit, some, written}
 use Rattle.rows.proofs.Lits.{lit-same, lit-fixes, false-from}
-use Rattle.weight.specs.Weight.{digits}
 use Rattle.weight.proofs.Marks.{push-good, cut-good}
-use Rattle.backtrack.specs.Values.{opens, Agrees, Opened, bit, opposite}
+use Rattle.backtrack.specs.Values.{Agrees, Opened, bit, opposite}
 use Rattle.backtrack.specs.Trail.{Along, Follows, Dead, Place, Witness, Trail, Reopened}
 use Rattle.backtrack.proofs.Values.{opens-shut, opens-open, bit-true, lit-opposite}
 

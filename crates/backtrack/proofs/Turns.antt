@@ -1,6 +1,6 @@
 -- One turn of the search: a decision, a step back from a clash, or the end; and why the search ends.
 use mathlib.Core.Path.{_≡_, refl, sym, ap, subst, _∙_}
-use mathlib.Core.Logic.{_⊎_, inl, inr, ⊎-elim}
+use mathlib.Core.Logic.{inl, inr, ⊎-elim}
 use mathlib.Core.List.{List}
 use mathlib.Core.Bool.{Bool, true, false, _&&_, cond}
 use Prim.Native.Nat.{ℕ, _+_, _-_, _*_, _/_, _^_, _≤_, _<_}
@@ -20,7 +20,7 @@ use Rattle.backtrack.specs.Trail.{Dead, Trail, Reopened}
 use Rattle.backtrack.specs.Solved.{allowed, Hit}
 use Rattle.backtrack.specs.Swept.{Swept, Ended}
 use Rattle.backtrack.specs.declared.End.{End}
-use Rattle.backtrack.specs.declared.End.the-variants.{Clash, Moved, Open, Met}
+use Rattle.backtrack.specs.declared.End.the-variants.{Clash, Moved, Open}
 use Rattle.backtrack.proofs.Values.{opens-most, opposite-variable}
 use Rattle.backtrack.proofs.Trails.{room, trail-push, trail-cut, dead-back, dead-flip}
 

@@ -1,9 +1,9 @@
 -- Values of which some are open: writing one, counting the open ones, and what the values make of a literal.
-use mathlib.Core.Path.{_≡_, refl, sym, ap, subst, _∙_}
+use mathlib.Core.Path.{_≡_, refl, sym, ap, _∙_}
 use mathlib.Core.Logic.{⊎-elim}
 use mathlib.Core.List.{List, [], _∷_}
 use mathlib.Core.Bool.{Bool, true, false, not, cond}
-use Prim.Native.Nat.{ℕ, zero, suc, _+_, _-_, _*_, _/_, _%_, _≤_, _<_}
+use Prim.Native.Nat.{ℕ, zero, suc, _+_, _-_, _/_, _%_, _≤_, _<_}
 use native.Mathlib.Omega.{arith}
 use lib.Dec.{eqb}
 use lib.ListN.{length, getD, set}
@@ -11,7 +11,7 @@ use lib.Seq.{getD-set-same}
 use Rattle.std.proofs.shelf.Tests.{cases-eq, cond-true, cond-false, eq-eqb, ne-eqb, not-from-false}
 use Rattle.chooser.specs.Ways.{lit, written}
 use Rattle.rows.proofs.Lits.{lit-same}
-use Rattle.backtrack.specs.Values.{opens, Agrees, Off, bit, opposite}
+use Rattle.backtrack.specs.Values.{opens, Off, bit, opposite}
 
 one : (x : ℕ) → cond (eqb x 2) 1 0 ≤ 1
 one x = elim (eqb x 2) as (λ b. cond {A = ℕ} b 1 0 ≤ 1) [ true ↦ omega arith | false ↦ omega arith ]

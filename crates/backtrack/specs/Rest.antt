@@ -3,11 +3,11 @@
 use mathlib.Core.Path.{_≡_}
 use mathlib.Core.List.{List}
 use mathlib.Core.Bool.{Bool, true, _&&_, cond}
-use Prim.Native.Nat.{ℕ, _+_, _-_, _≤_, _<_}
+use Prim.Native.Nat.{ℕ, _+_, _-_, _<_}
 use lib.Dec.{ltb}
 use lib.ListN.{length, getD, drop}
 use Rattle.std.specs.shelf.Lists.{between}
-use Rattle.chooser.specs.Ways.{lit, some, every, allotted}
+use Rattle.chooser.specs.Ways.{some, every, allotted}
 use Rattle.rows.specs.Rows.{inside, holds}
 
 -- the clause at a place, and the place behind it

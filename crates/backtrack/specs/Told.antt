@@ -4,7 +4,7 @@ use mathlib.Core.Logic.{_⊎_}
 use mathlib.Core.List.{List}
 use mathlib.Core.Bool.{Bool, true, false}
 use Prim.Native.Nat.{ℕ, _<_}
-use lib.ListN.{length, getD}
+use lib.ListN.{getD}
 use Rattle.chooser.specs.Ways.{lit, some, written}
 use Rattle.backtrack.specs.Values.{Agrees, Opened, Off}
 use Rattle.backtrack.specs.declared.clause.Status.{Status}

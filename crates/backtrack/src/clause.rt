@@ -1,7 +1,7 @@
 // A clause under values that are 0, 1 or, for a variable that is open, 2.
 ghost use mathlib.Core.Path.{_≡_};
-ghost use mathlib.Core.Bool.{Bool, true};
-ghost use Prim.Native.Nat.{ℕ, _*_, _/_, _<_};
+ghost use mathlib.Core.Bool.{true};
+ghost use Prim.Native.Nat.{_/_, _<_};
 ghost use lib.ListN.{length};
 ghost use Rattle.chooser.specs.Ways.{lit, allotted, written};
 ghost use Rattle.backtrack.specs.Told.{Told};

@@ -1,9 +1,9 @@
 // The search for a way that meets a row of clauses and a list of assumptions: backtracking with unit propagation.
 // It is a loop over a trail of literals, and needs no stack that grows with the variables.
 ghost use mathlib.Core.Path.{_≡_};
-ghost use mathlib.Core.Bool.{Bool, true};
-ghost use Prim.Native.Nat.{ℕ, _+_, _-_, _*_, _/_, _≤_, _<_};
-ghost use lib.ListN.{length, getD, take};
+ghost use mathlib.Core.Bool.{true};
+ghost use Prim.Native.Nat.{_+_, _-_, _/_, _≤_, _<_};
+ghost use lib.ListN.{length, getD};
 ghost use Rattle.chooser.specs.Ways.{allotted};
 ghost use Rattle.rows.specs.Rows.{inside};
 ghost use Rattle.backtrack.specs.Solved.{allowed, Solved};

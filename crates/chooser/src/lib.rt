@@ -1,7 +1,7 @@
 // A chooser holds variables that are 0 or 1 and clauses over them, and says whether some way to give the variables values is left.
 // Literal 2i says that variable i is 1, literal 2i + 1 that it is 0.
 ghost use mathlib.Core.Path.{_≡_};
-ghost use Prim.Native.Nat.{ℕ, _+_, _≤_};
+ghost use Prim.Native.Nat.{ℕ, _+_};
 ghost use Rattle.chooser.specs.Faults.{fault-number};
 ghost use Rattle.chooser.specs.Meaning.{Meaning, Same, Lawful};
 ghost use Rattle.chooser.specs.Steps.{NewVariable, Add, Ask};

@@ -1,7 +1,7 @@
 // A formula put to any chooser: proved once, from the chooser's meaning alone.
 ghost use mathlib.Core.Path.{_≡_};
 ghost use mathlib.Core.Bool.{true};
-ghost use Prim.Native.Nat.{ℕ, _+_, _≤_};
+ghost use Prim.Native.Nat.{_+_, _≤_};
 ghost use lib.ListN.{length};
 ghost use Rattle.rows.specs.Rows.{inside};
 ghost use Rattle.decide.specs.Decided.{Taken, Narrowed, Accepted, Decided};

@@ -1,10 +1,9 @@
 -- One byte more of the text, and how reading ends.
-use mathlib.Core.Path.{_≡_, refl, sym, ap, _∙_}
-use mathlib.Core.List.{List, _∷_}
+use mathlib.Core.Path.{_≡_, ap, _∙_}
+use mathlib.Core.List.{List}
 use Prim.Native.Nat.{ℕ, _+_, _≤_, _<_}
 use lib.ListN.{length, drop, getD}
 use Rattle.std.proofs.shelf.Lists.{at-drop-more, at-drop-all}
-use Rattle.std.specs.declared.result.Result.{Result}
 use Rattle.std.specs.declared.result.Result.the-variants.{Ok, Err}
 use Rattle.dimacs.specs.declared.fault.Kind.{Kind}
 use Rattle.dimacs.specs.Feed.{Reading, Content, begin, fed, feeds, onward, closed, closing, last-line, after-all, fault-at, fault-last, content}

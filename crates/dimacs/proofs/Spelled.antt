@@ -1,13 +1,12 @@
 -- A text that spells a formula is read as that formula: the reader goes through the header, and word for word through the clauses.
 use mathlib.Core.Path.{_≡_, refl, sym, ap, subst, _∙_}
-use mathlib.Core.Bool.{Bool, true, false, _&&_, _||_, cond}
+use mathlib.Core.Bool.{Bool, true, false, _||_}
 use mathlib.Core.List.{List, [], _∷_, _++_, append-assoc, append-nil}
 use Prim.Native.Nat.{ℕ, _+_, _-_, _*_, _≤_, _<_, min}
 use native.Mathlib.Omega.{arith}
 use lib.Dec.{eqb, leb, ltb}
 use lib.ListN.{length, length-append}
 use Rattle.std.proofs.shelf.Tests.{and-parts, cond-true, cond-false, leb-true, lt-ltb, le-ltb, lt-leb, eq-eqb, ne-eqb, or-from}
-use Rattle.std.specs.declared.result.Result.{Result}
 use Rattle.std.specs.declared.result.Result.the-variants.{Ok, Err}
 use Rattle.dimacs.specs.declared.fault.Kind.the-variants.{OutOfRange, Garbage, TooManyClauses, TooManyEntries, TooManyVariables, TooFewClauses}
 use Rattle.dimacs.specs.declared.step.Mode.{Mode}
@@ -15,10 +14,9 @@ use Rattle.dimacs.specs.declared.step.Mode.the-variants.{Start, Comment, Ended
 use Rattle.dimacs.specs.declared.step.Stage.{Stage}
 use Rattle.dimacs.specs.declared.step.Stage.the-variants.{Variables, Clauses, Body}
 use Rattle.dimacs.specs.declared.step.State.{State}
-use Rattle.dimacs.specs.declared.step.Event.the-variants.{Literal, Clause}
-use Rattle.dimacs.specs.Step.{digit, blank, newline, literal, still, stepped, begun, begun-at, to-mode, to-number, item, mode-behind, longer}
-use Rattle.dimacs.specs.Feed.{Reading, Stop, begin, fed, feeds, acted, onward, closing, content, after-all}
-use Rattle.dimacs.specs.Spelled.{digits-only, value-on, Numeral, numeral-bytes, value, Proper, Word, word-bytes, clause-bytes, clauses-bytes, text-bytes, clause-of, row-of, Named, All-named, Every-named, Read-as-spelled}
+use Rattle.dimacs.specs.Step.{digit, blank, newline, literal, still, begun, begun-at, to-mode, to-number, mode-behind, longer}
+use Rattle.dimacs.specs.Feed.{Reading, begin, fed, feeds, acted, onward, closing, after-all}
+use Rattle.dimacs.specs.Spelled.{digits-only, value-on, Numeral, numeral-bytes, value, Proper, Word, word-bytes, clause-bytes, clauses-bytes, text-bytes, clause-of, row-of, All-named, Every-named, Read-as-spelled}
 
 -- the bytes lead from one reading to another, whatever comes behind them
 abbrev Goes : Reading → List ℕ → Reading → Type 0

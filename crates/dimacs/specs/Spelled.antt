@@ -1,13 +1,12 @@
 -- Texts that spell a formula: each number by its digits, leading zeros allowed. Such a text is read as the formula that it spells.
 use mathlib.Core.Path.{_≡_}
-use mathlib.Core.Bool.{Bool, true, false, _&&_, cond}
+use mathlib.Core.Bool.{Bool, true, _&&_, cond}
 use mathlib.Core.List.{List, [], _∷_, _++_}
-use Prim.Native.Nat.{ℕ, _+_, _-_, _*_, _≤_, _<_}
+use Prim.Native.Nat.{ℕ, _+_, _-_, _*_, _≤_}
 use lib.ListN.{length}
-use Rattle.std.specs.declared.result.Result.{Result}
-use Rattle.std.specs.declared.result.Result.the-variants.{Ok, Err}
+use Rattle.std.specs.declared.result.Result.the-variants.{Ok}
 use Rattle.dimacs.specs.Step.{digit, literal}
-use Rattle.dimacs.specs.Feed.{Content, content}
+use Rattle.dimacs.specs.Feed.{content}
 
 abbrev pub digits-only : List ℕ → Bool
 digits-only [] = true

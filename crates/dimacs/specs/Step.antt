@@ -11,7 +11,6 @@ use Rattle.dimacs.specs.declared.step.Mode.the-variants.{Start, Comment, Ended
 use Rattle.dimacs.specs.declared.step.Stage.{Stage}
 use Rattle.dimacs.specs.declared.step.Stage.the-variants.{Before, Variables, Clauses, Rest, Body}
 use Rattle.dimacs.specs.declared.step.State.{State}
-use Rattle.dimacs.specs.declared.step.Event.{Event}
 use Rattle.dimacs.specs.declared.step.Event.the-variants.{Nothing, Literal, Clause}
 use Rattle.dimacs.specs.declared.step.Step.{Step}
 

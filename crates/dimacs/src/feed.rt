@@ -1,5 +1,4 @@
 // The reader takes one byte after another.
-ghost use mathlib.Core.Path.{_≡_};
 ghost use Rattle.dimacs.specs.Read.{reading, New, Put, Fed, Finished};
 use crate::fault::Kind;
 use crate::formula::Formula;

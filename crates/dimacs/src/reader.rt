@@ -1,5 +1,5 @@
 use crate::step::State;
-ghost use Prim.Native.Nat.{ℕ, _≤_};
+ghost use Prim.Native.Nat.{_≤_};
 ghost use Rattle.std.specs.Of.Vec.{vec-len, vec-cap};
 
 // What was read so far, in memory that is reserved at the start.

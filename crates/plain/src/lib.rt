@@ -1,7 +1,5 @@
 // The plain chooser: it keeps its clauses as they were added, and answers by backtracking.
-ghost use mathlib.Core.Path.{_≡_};
-ghost use Prim.Native.Nat.{ℕ, _+_};
-ghost use lib.ListN.{length};
+ghost use Prim.Native.Nat.{_+_};
 ghost use Rattle.chooser.specs.Steps.{Add};
 ghost use Rattle.chooser.specs.Made.{Made};
 ghost use Rattle.plain.specs.Means.{plain-means, plain-laws, Spent};

@@ -1,18 +1,19 @@
-use mathlib.Core.Path.{_≡_, refl, sym, ap, subst, _∙_}
+-- Each turn of the search: a pass that moved, a decision, a step back; and its two answers.
+use mathlib.Core.Path.{_≡_, sym, ap, subst, _∙_}
 use mathlib.Core.List.{List}
 use mathlib.Core.Bool.{Bool, true}
-use Prim.Native.Nat.{ℕ, _+_, _-_, _*_, _/_, _^_, _≤_, _<_}
+use Prim.Native.Nat.{ℕ, _+_, _-_, _/_, _^_, _<_}
 use native.Mathlib.Omega.{arith}
 use lib.ListN.{length, getD, take, set, replicate}
-use Rattle.std.proofs.shelf.Lists.{getD-replicate, length-replicate}
-use Rattle.chooser.specs.Ways.{allotted, written}
+use Rattle.std.proofs.shelf.Lists.{getD-replicate}
+use Rattle.chooser.specs.Ways.{allotted}
 use Rattle.rows.specs.Rows.{inside}
 use Rattle.weight.specs.Weight.{weight}
-use Rattle.backtrack.specs.Values.{opposite, bit}
+use Rattle.backtrack.specs.Values.{bit}
 use Rattle.backtrack.specs.Solved.{allowed}
 use Rattle.backtrack.specs.Trail.{Trail}
 use Rattle.backtrack.specs.Swept.{Ended}
-use Rattle.backtrack.proofs.Turns.{trail-start, moved-less, open-room, open-again, open-less, clash-never, clash-room, clash-again, clash-less, finished}
+use Rattle.backtrack.proofs.Turns.{trail-start, moved-less, open-room, open-again, open-less, clash-never, clash-again, clash-less, finished}
 use Rattle.backtrack.proofs.solve.Needs as need
 
 -- a trail, or its measure, at the lists as a call left them

@@ -1,4 +1,5 @@
-use Prim.Native.Nat.{ℕ, _-_, _^_}
+-- The trail stays sound, and its weight comes nearer to its bound.
+use Prim.Native.Nat.{_-_, _^_}
 use lib.ListN.{length, take}
 use Rattle.weight.specs.Weight.{weight}
 use Rattle.backtrack.specs.Solved.{allowed}

@@ -1,17 +1,17 @@
-use mathlib.Core.Path.{_≡_, refl, sym, ap, subst, _∙_}
+-- One clause more: false, left with one literal, open or met; and the ends of the pass.
+use mathlib.Core.Path.{_≡_, sym, subst}
 use mathlib.Core.Bool.{true}
 use mathlib.Core.List.{List}
-use Prim.Native.Nat.{ℕ, _+_, _-_, _*_, _/_, _≤_, _<_}
+use Prim.Native.Nat.{ℕ, _+_}
 use native.Mathlib.Omega.{arith}
 use lib.ListN.{length}
-use Rattle.std.specs.declared.option.Option.{Option}
 use Rattle.chooser.specs.Ways.{allotted}
 use Rattle.backtrack.specs.Swept.{Passing}
-use Rattle.backtrack.specs.declared.End.the-variants.{Clash, Moved, Open, Met}
+use Rattle.backtrack.specs.declared.End.the-variants.{Clash, Met}
 use Rattle.backtrack.proofs.Trails.{room}
 use Rattle.backtrack.proofs.Rest.{clause-fits, next-read}
 use Rattle.backtrack.specs.Solved.{allowed}
-use Rattle.backtrack.proofs.Passes.{pass-start, pass-ends, pass-clash, pass-met, pass-open, pass-push, pass-all-met, pass-all-open}
+use Rattle.backtrack.proofs.Passes.{pass-start, pass-ends, pass-clash, pass-met, pass-open, pass-push, pass-all-met}
 use Rattle.backtrack.proofs.sweep.Needs as need
 
 pub loop-at-holds : need.loop-at-holds

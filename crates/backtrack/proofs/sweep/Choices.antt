@@ -1,4 +1,5 @@
-use Prim.Native.Nat.{ℕ, _+_, _-_, _≤_}
+-- What the pass has come to at the place; what is left of the assumptions and the row gets shorter.
+use Prim.Native.Nat.{_+_, _-_}
 use lib.ListN.{length}
 use Rattle.backtrack.specs.Rest.{Rest}
 use Rattle.backtrack.specs.Swept.{Passing}

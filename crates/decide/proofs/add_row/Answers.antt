@@ -1,5 +1,4 @@
-use Prim.Native.Nat.{_+_, _-_, _<_}
-use native.Mathlib.Omega.{arith}
+-- Each clause is whole, its literals are allotted and its entries are left, so the chooser takes it.
 use Rattle.decide.proofs.Adds.{adding-none, adding-all, adding-more, adding-never, clause-fits}
 use Rattle.decide.proofs.add_row.Needs as need
 

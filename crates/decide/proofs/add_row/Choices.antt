@@ -1,3 +1,4 @@
+-- The clauses before the place were added; what is left of the row gets shorter.
 use Prim.Native.Nat.{_-_}
 use lib.ListN.{length}
 use Rattle.decide.specs.Adding.{Adding}

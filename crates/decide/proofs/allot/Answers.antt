@@ -1,3 +1,4 @@
+-- The chooser has a variable left at each turn.
 use mathlib.Core.Path.{_≡_, subst}
 use native.Mathlib.Omega.{arith}
 use Rattle.decide.specs.Decided.{Taken}

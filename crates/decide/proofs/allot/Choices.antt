@@ -1,3 +1,4 @@
+-- As many variables were allotted as turns were made.
 use Rattle.decide.specs.Decided.{Taken}
 use Rattle.decide.proofs.allot.Given as given
 

@@ -1,3 +1,4 @@
+-- The newlines that are left, with the line so far, make up the line; it does not pass the place.
 use mathlib.Core.Path.{_≡_}
 use Prim.Native.Nat.{_+_, _≤_}
 use lib.ListN.{take, drop}

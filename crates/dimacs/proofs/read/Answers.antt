@@ -1,9 +1,8 @@
+-- One byte more, and the ways in which reading ends.
 use mathlib.Core.Path.{_≡_, sym, ap, subst, _∙_}
-use Prim.Native.Nat.{ℕ, _-_}
-use native.Mathlib.Omega.{arith}
+use Prim.Native.Nat.{_-_}
 use lib.ListN.{length}
-use Rattle.std.specs.declared.result.Result.{Result}
-use Rattle.std.specs.declared.result.Result.the-variants.{Ok, Err}
+use Rattle.std.specs.declared.result.Result.the-variants.{Err}
 use Rattle.dimacs.specs.Read.{reading, formula, bad-at, Reads}
 use Rattle.dimacs.proofs.Bytes.{reads-more, reads-stop, reads-last-stop, reads-open, reads-whole}
 use Rattle.dimacs.proofs.read.Needs as need

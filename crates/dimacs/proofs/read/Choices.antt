@@ -1,3 +1,4 @@
+-- The bytes that are left, from what was read so far, come to what the whole text comes to.
 use mathlib.Core.Path.{_≡_}
 use lib.ListN.{drop}
 use Rattle.dimacs.specs.Feed.{begin, feeds}

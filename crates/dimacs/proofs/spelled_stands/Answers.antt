@@ -1,3 +1,4 @@
+-- The theorem about texts that spell a formula.
 use Rattle.dimacs.proofs.Spelled.{read-as-spelled}
 use Rattle.dimacs.proofs.spelled_stands.Needs as need
 

@@ -1,5 +1,6 @@
+-- The literals that are left decide the answer.
 use mathlib.Core.Path.{_≡_}
-use lib.ListN.{length, drop}
+use lib.ListN.{drop}
 use Rattle.chooser.specs.Ways.{allotted}
 use Rattle.rows.proofs.are_allotted.Given as given
 

@@ -1,3 +1,4 @@
+-- What is left of the row, with the literals still due of its clause, decides the answer.
 use mathlib.Core.Path.{_≡_}
 use lib.ListN.{drop}
 use Rattle.rows.specs.Rows.{inside}

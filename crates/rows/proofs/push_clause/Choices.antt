@@ -1,3 +1,4 @@
+-- The row has the literals before the place, and its room is as it was.
 use mathlib.Core.Path.{_≡_}
 use mathlib.Core.List.{_++_}
 use Prim.Native.Nat.{_+_}

@@ -1,6 +1,7 @@
-use mathlib.Core.Path.{_≡_, refl, sym, ap, subst, _∙_}
-use mathlib.Core.Bool.{Bool, true, false}
-use Prim.Native.Nat.{ℕ, _+_, _*_, _/_, _<_}
+-- One literal more, and what the whole clause tells.
+use mathlib.Core.Path.{_≡_, sym, subst, _∙_}
+use mathlib.Core.Bool.{Bool, false}
+use Prim.Native.Nat.{ℕ, _+_, _*_, _<_}
 use native.Mathlib.Omega.{arith}
 use lib.ListN.{length, getD}
 use Rattle.chooser.specs.Ways.{lit, written}
@@ -9,7 +10,7 @@ use Rattle.backtrack.specs.Told.{Looked}
 use Rattle.backtrack.proofs.Values.{off-from}
 use Rattle.backtrack.proofs.Looks.{looked-first, looked-many, looked-off, told-clash, told-forced}
 use Rattle.std.specs.declared.option.Option.{Option}
-use Rattle.std.specs.declared.option.Option.the-variants.{None, Some}
+use Rattle.std.specs.declared.option.Option.the-variants.{Some}
 use Rattle.backtrack.proofs.clause.inspect.Needs as need
 use Rattle.backtrack.proofs.clause.inspect.Needs.{then-values-l-eq2·in-None, then-values-l-eq2·in-Some, else-values-l-eq2·else-is-true}
 

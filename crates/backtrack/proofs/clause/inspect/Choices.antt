@@ -1,3 +1,4 @@
+-- What the literals before the place tell.
 use Rattle.backtrack.specs.Told.{Looked}
 use Rattle.backtrack.proofs.clause.inspect.Given as given
 

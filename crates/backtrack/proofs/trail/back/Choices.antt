@@ -1,3 +1,4 @@
+-- No place that was passed is a decision.
 use mathlib.Core.Path.{_≡_}
 use Prim.Native.Nat.{ℕ, _≤_, _<_}
 use lib.ListN.{getD}

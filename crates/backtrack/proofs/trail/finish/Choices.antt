@@ -1,3 +1,4 @@
+-- The values before the place are closed, and the others are as they were.
 use mathlib.Core.Path.{_≡_}
 use mathlib.Core.Bool.{cond}
 use Prim.Native.Nat.{ℕ, _≤_, _<_}

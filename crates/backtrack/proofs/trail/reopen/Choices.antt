@@ -1,3 +1,4 @@
+-- The places from the start to here were made open.
 use Prim.Native.Nat.{_+_}
 use Rattle.backtrack.specs.Trail.{Reopened}
 use Rattle.backtrack.proofs.trail.reopen.Given as given

@@ -1,3 +1,4 @@
+-- Whole clauses over v variables are whole clauses over v + 1.
 use Prim.Native.Nat.{_+_}
 use native.Mathlib.Omega.{arith}
 use Rattle.std.specs.Of.Vec.{vec-items}
