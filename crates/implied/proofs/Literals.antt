@@ -33,3 +33,6 @@ lit-off p a b t e = opposite p a b t ∙ ap not e
 
 pub lit-on : (p : ℕ → Bool) (a b : ℕ) → Turned b a → lit p b ≡ false → lit p a ≡ true
 lit-on p a b t e = opposite p a b t ∙ ap not e
+
+pub turned-back : (a b : ℕ) → Turned a b → Turned b a
+turned-back a b t = (sym (t .0), λ e. t .1 (sym e))

@@ -73,23 +73,6 @@ module _ (X : (ℕ → Bool) → Bool) (val lits marks : List ℕ) (d : ℕ) (s 
         digit-ltb : (m : ℕ) → m < 3 → ltb m 3 ≡ true
         digit-ltb m h = lt-ltb m 3 h
 
-    pub grew-push : (marks₀ lits₀ : List ℕ) (d₀ : ℕ) → mark ≡ 2 → Grew marks₀ lits₀ d₀ marks lits d → Grew marks₀ lits₀ d₀ (set marks d mark) (set lits d l) (d + 1)
-    grew-push marks₀ lits₀ d₀ two g =
-        let more = g .more in
-        let up = g .up in
-        let deep = s .deep in
-        let rises = push-rises marks 4096 d deep (s .good) mark push-room (omega arith) in
-        record {
-          more = omega arith;
-          same-marks = λ k lt. let ne : k ≡ d → ⊥ = λ e. omega arith in getD-set-other marks d k mark 0 ne ∙ g .same-marks k lt;
-          same-lits = λ k lt. let ne : k ≡ d → ⊥ = λ e. omega arith in getD-set-other lits d k l 0 ne ∙ g .same-lits k lt;
-          forced = λ j le lt. ⊎-elim
-            (λ e. ap (λ i. getD (set marks d mark) i 0) e ∙ getD-set-same marks d mark 0 (let r = push-room in omega arith) ∙ two)
-            (λ ne. getD-set-other marks d j mark 0 ne ∙ g .forced j le (omega arith))
-            (cases-eq j d);
-          up = omega arith;
-        }
-
   module _ (some : 0 < d) where
     pub sound-pop : Sound X (set val (getD lits (d - 1) 0 / 2) 2) lits marks (d - 1)
     sound-pop =
@@ -118,6 +101,23 @@ module _ (X : (ℕ → Bool) → Bool) (val lits marks : List ℕ) (d : ℕ) (s 
           good = cut-good marks 4096 d deep (s .good) (d - 1) (omega arith) (omega arith);
           room = let o = opens-set val (top / 2) 2 in omega arith;
         }
+
+  pub grew-push : (l mark : ℕ) → d < 4096 → mark ≡ 2 → (marks₀ lits₀ : List ℕ) (d₀ : ℕ) → Grew marks₀ lits₀ d₀ marks lits d → Grew marks₀ lits₀ d₀ (set marks d mark) (set lits d l) (d + 1)
+  grew-push l mark lt two marks₀ lits₀ d₀ g =
+      let more = g .more in
+      let up = g .up in
+      let deep = s .deep in
+      let rises = push-rises marks 4096 d deep (s .good) mark lt (omega arith) in
+      record {
+        more = omega arith;
+        same-marks = λ k less. let ne : k ≡ d → ⊥ = λ e. omega arith in getD-set-other marks d k mark 0 ne ∙ g .same-marks k less;
+        same-lits = λ k less. let ne : k ≡ d → ⊥ = λ e. omega arith in getD-set-other lits d k l 0 ne ∙ g .same-lits k less;
+        forced = λ j le less. ⊎-elim
+          (λ e. ap (λ i. getD (set marks d mark) i 0) e ∙ getD-set-same marks d mark 0 (omega arith) ∙ two)
+          (λ ne. getD-set-other marks d j mark 0 ne ∙ g .forced j le (omega arith))
+          (cases-eq j d);
+        up = omega arith;
+      }
 
   -- the opposite of a literal that is false stands on the trail
   pub refuted-by : (l : ℕ) → Refuted val l → (j : ℕ) × (j < d) × Turned l (getD lits j 0)

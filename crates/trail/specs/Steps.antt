@@ -10,6 +10,7 @@ abbrev pub Steady : ((ℕ → Bool) → Bool) → Trail → Type 0
 Steady X t = Sound X (t .val) (t .lits) (t .marks) (t .len)
 
 pub record Placed (t t′ : Trail) (l mark : ℕ) : Type 0 where
+  pub within : t .len < 4096
   pub more : t′ .len ≡ t .len + 1
   pub lits : t′ .lits ≡ set (t .lits) (t .len) l
   pub marks : t′ .marks ≡ set (t .marks) (t .len) mark

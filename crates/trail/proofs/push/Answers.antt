@@ -29,5 +29,5 @@ returns c =
     let t = c .args .t .now in
     record {
       steady = sound-push (allowed (c .args .row .now)) (t .val) (t .lits) (t .marks) (t .len) (c .pre .steady) (c .args .l) (c .args .mark) (omega arith) (omega arith) (c .pre .marked);
-      pushed = record { more = refl; lits = refl; marks = refl };
+      pushed = record { within = omega arith; more = refl; lits = refl; marks = refl };
     }
