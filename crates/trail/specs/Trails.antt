@@ -30,6 +30,7 @@ pub record Valued (val : List ℕ) (l r : ℕ) : Type 0 where
   pub off : r ≡ 0 → Refuted val l
   pub on : r ≡ 1 → (l / 2 < length val) × (getD val (l / 2) 0 + l % 2 ≡ 1)
   pub free : r ≡ 2 → 1 < getD val (l / 2) 0
+  pub shut : 1 < getD val (l / 2) 0 → r ≡ 2
   pub small : l / 2 < length val → r < 3
 
 -- how many variables are open
