@@ -17,6 +17,10 @@ use trail::is_false;
 use trail::push;
 use trail::value;
 
+mod kept;
+
+pub use kept::Watches;
+
 pub const NONE: u32 = 4294967295;
 
 // What a visit of a clause came to: its watch stays, moves to another literal, or the clause is false.
@@ -150,7 +154,7 @@ fn visit_all(row: &[u16], pool: &[u16], starts: &[u32], count: usize, used: usiz
 }
 
 // Follows the literals of the trail from the place `q` on. Returns the clause that is false, or NONE.
-pub fn propagate(row: &[u16], pool: &[u16], starts: &[u32], count: usize, used: usize, head: &mut [u32], next: &mut [u32], watch: &mut [u16], from: &mut [u16], t: &mut Trail, q: usize) -> u32
+pub fn propagate(row: &[u16], pool: &[u16], starts: &[u32], count: usize, used: usize, w: &mut Watches, t: &mut Trail, q: usize) -> u32
     requires pools { ⌜ Pool (allowed (now row)) (now pool) (now starts) count used ⌝ }
     requires fits { ⌜ used ≤ length (now pool) ⌝ }
     requires steady { ⌜ Steady (allowed (now row)) (now t) ⌝ }
@@ -160,7 +164,7 @@ pub fn propagate(row: &[u16], pool: &[u16], starts: &[u32], count: usize, used: 
     while q < t.len {
         let l = turned(t.lits[q]);
         q += 1;
-        let clash = visit_all(row, pool, starts, count, used, head, next, watch, from, t, l);
+        let clash = visit_all(row, pool, starts, count, used, w.head.as_mut_slice(), w.next.as_mut_slice(), w.watch.as_mut_slice(), w.from.as_mut_slice(), t, l);
         if clash != NONE {
             return clash;
         }
@@ -168,14 +172,22 @@ pub fn propagate(row: &[u16], pool: &[u16], starts: &[u32], count: usize, used: 
     NONE
 }
 
-// Watches the first two literals of the clause, which is new.
-pub fn watch_first(pool: &[u16], starts: &[u32], head: &mut [u32], next: &mut [u32], watch: &mut [u16], from: &mut [u16], c: usize) {
+// Watches the first two literals of the clause, which is new: it was last of use at the time `now`, and `glue` is how many
+// levels it joins.
+pub fn watch_first(pool: &[u16], starts: &[u32], w: &mut Watches, c: usize, now: u32, glue: u16) {
     let s = at32(starts, c) as usize;
-    put16(from, c, 0);
+    put16(w.from.as_mut_slice(), c, 0);
+    put32(w.heat.as_mut_slice(), c, now);
+    put16(w.glue.as_mut_slice(), c, glue);
     if at16(pool, s) >= 2 && c < 2147483647 {
-        let w = 2 * c as u32;
-        link(head, next, watch, w, at16(pool, s + 1));
-        link(head, next, watch, w + 1, at16(pool, s + 2));
+        watch_two(w, c as u32, at16(pool, s + 1), at16(pool, s + 2));
+    }
+}
+
+fn watch_two(w: &mut Watches, c: u32, a: u16, b: u16) {
+    if c < 2147483647 {
+        link(w.head.as_mut_slice(), w.next.as_mut_slice(), w.watch.as_mut_slice(), 2 * c, a);
+        link(w.head.as_mut_slice(), w.next.as_mut_slice(), w.watch.as_mut_slice(), 2 * c + 1, b);
     }
 }
 
@@ -189,21 +201,23 @@ fn unfalse(pool: &[u16], from: usize, end: usize, t: &Trail) -> usize
     scan(pool, from, end, t, 65535).min(end - 1)
 }
 
-// Empties the lists, and watches two literals of each clause, such as are not false if it has them.
-pub fn watch_all(pool: &[u16], starts: &[u32], head: &mut [u32], next: &mut [u32], watch: &mut [u16], from: &mut [u16], t: &Trail, count: usize) {
+fn empty(head: &mut [u32]) {
     for l in 0..head.len() {
         head[l] = NONE;
     }
+}
+
+// Empties the lists, and watches two literals of each clause, such as are not false if it has them.
+pub fn watch_all(pool: &[u16], starts: &[u32], w: &mut Watches, t: &Trail, count: usize) {
+    empty(w.head.as_mut_slice());
     for c in 0..count {
         let s = at32(starts, c) as usize;
         let len = at16(pool, s) as usize;
-        put16(from, c, 0);
+        put16(w.from.as_mut_slice(), c, 0);
         if len >= 2 && c < 2147483647 {
-            let w = 2 * c as u32;
             let i = unfalse(pool, s + 1, s + len, t);
             let j = unfalse(pool, i + 1, s + 1 + len, t);
-            link(head, next, watch, w, at16(pool, i));
-            link(head, next, watch, w + 1, at16(pool, j));
+            watch_two(w, c as u32, at16(pool, i), at16(pool, j));
         }
     }
 }
