@@ -8,4 +8,6 @@ pub struct Plan {
     // The literals from the place `queue` on are still to be propagated; those before `fixed` are marked known, at level 0.
     pub queue: usize,
     pub fixed: usize,
+    // The clause that is false, after a clash.
+    pub clash: u32,
 }
