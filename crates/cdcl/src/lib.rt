@@ -19,15 +19,12 @@ use decide::begin;
 use decide::choose;
 use decide::cut_back;
 use decide::settle;
+use forget::forget;
 use implied::append;
 use implied::at16;
-use implied::at32;
-use implied::carry;
 use propagate::NONE;
 use propagate::Watches;
 use propagate::propagate;
-use propagate::put16;
-use propagate::put32;
 use propagate::watch_all;
 use propagate::watch_first;
 use trail::Trail;
@@ -133,42 +130,45 @@ fn advance(row: &[u16], given: &[u16], pool: &[u16], starts: &[u32], off: &mut [
     choose(row, given, t, o, plan, out)
 }
 
-// Searches for a way that meets each clause of the row and each assumption.
-pub fn run(row: &[u16], given: &[u16], pool: &mut [u16], starts: &mut [u32], spare: &mut [u16], listed: &mut [u32], off: &mut [u8], seen: &mut [u8], buf: &mut [u16], w: &mut Watches, t: &mut Trail, o: &mut Order, tally: &mut Tally, out: &mut [u8]) -> Outcome
-    requires stocked { ⌜ Stocked (allowed (now row)) (now pool) (now starts) (now tally .count) (now tally .used) ⌝ }
-    requires offs { ⌜ Off (allowed (now row)) (now off) ⌝ }
-    requires wide { ⌜ length (now buf) ≡ 4096 ⌝ }
-    requires few { ⌜ length (now out) ≤ 4096 ⌝ }
-    requires sound { ⌜ inside (length (now out)) 0 (now row) ≡ true ⌝ }
-    requires named { ⌜ allotted (length (now out)) (now given) ≡ true ⌝ }
-    ensures stocked { λ _. ⌜ Stocked (allowed (now (row .entry))) (now (pool .exit)) (now (starts .exit)) (now (tally .exit) .count) (now (tally .exit) .used) ⌝ }
-    ensures offs { λ _. ⌜ Off (allowed (now (row .entry))) (now (off .exit)) ⌝ }
-    ensures ended { λ r. ⌜ Ended (now (row .entry)) (now (given .entry)) (now (out .exit)) r ⌝ }
+// Returns the place of the first decision, or the trail's length where there is none.
+fn first_decision(t: &Trail) -> usize
+    ensures { λ r. ⌜ r ≤ now (t .entry) .len ⌝ }
 {
-    begin(row, off, t);
-    let mut plan = Plan { next: 0, firm: 0, queue: 0, fixed: t.len, clash: NONE };
-    let mut fuel: u32 = 4294967295;
-    let mut since: u32 = 0;
-    let mut turns: u32 = 1;
-    'turn: loop {
-        if since >= 100 && fuel > 0 {
-            fuel -= 1;
-            since = 0;
-            restart(row, given, pool, starts, spare, listed, w, t, o, &mut plan, tally);
-        } else {
-            match advance(row, given, pool, starts, off, w, t, o, &mut plan, tally, out) {
-                Next::Yes => return Outcome::Yes,
-                Next::No => return Outcome::No,
-                Next::Decide(l) => {
-                    let _ = push(row, t, l, 1, NONE);
-                }
-                Next::Clash => {
-                    if !backjump(row, given, pool, starts, off, seen, buf, w, t, o, &mut plan, tally) {
-                        return Outcome::Never;
-                    }
-                    since = since.wrapping_add(1);
-                }
-            }
-        }
-    }
+    if t.levels == 0 { t.len } else { (t.lim[0] as usize).min(t.len) }
 }
+
+// Begins anew behind the assumptions; once enough was learned, at the start, and forgets what is not worth keeping.
+fn restart(row: &[u16], given: &[u16], pool: &mut [u16], starts: &mut [u32], spare: &mut [u16], listed: &mut [u32], w: &mut Watches, t: &mut Trail, o: &mut Order, plan: &mut Plan, tally: &mut Tally)
+    requires stocked { ⌜ Stocked (allowed (now row)) (now pool) (now starts) (now tally .count) (now tally .used) ⌝ }
+    requires steady { ⌜ Steady (allowed (now row)) (now t) ⌝ }
+    requires planned { ⌜ Planned (now given) (now t) (now plan) ⌝ }
+    ensures stocked { λ _. ⌜ Stocked (allowed (now (row .entry))) (now (pool .exit)) (now (starts .exit)) (now (tally .exit) .count) (now (tally .exit) .used) ⌝ }
+    ensures steady { λ _. ⌜ Steady (allowed (now (row .entry))) (now (t .exit)) ⌝ }
+    ensures planned { λ _. ⌜ Planned (now (given .entry)) (now (t .exit)) (now (plan .exit)) ⌝ }
+{
+    let first = first_decision(t);
+    if tally.learned < tally.limit {
+        let k = first.max(plan.firm);
+        cut_back(row, given, t, o, plan, k);
+        return;
+    }
+    cut_back(row, given, t, o, plan, first);
+    let window = 400 + tally.clashes / 12;
+    let left = forget(row, pool, starts, tally.count, tally.used, spare, listed, w, tally.clashes, window);
+    tally.count = left.count;
+    tally.used = left.used;
+    tally.learned = left.learned;
+    tally.limit = left.learned.saturating_add(1000);
+    watch_all(pool, starts, w, t, left.count);
+    plan.queue = 0;
+}
+
+// Returns how many clashes to wait for the next restart: a tenth more each time, and 100 again past `outer`.
+fn longer(inner: u32, outer: u32) -> u32 {
+    if inner > outer { 100 } else { inner.saturating_add(inner / 10) }
+}
+
+fn farther(inner: u32, outer: u32) -> u32 {
+    if inner == 100 { outer.saturating_add(outer / 10) } else { outer }
+}
+

@@ -14,6 +14,8 @@ use Rattle.rows.proofs.Lits.{false-from, every-at}
 use Rattle.implied.specs.Implied.{allowed}
 use Rattle.implied.proofs.Literals.{lit-off, turned-back}
 use Rattle.trail.specs.Trails.{Along, Refuted, Sound, Grew}
+use Rattle.trail.specs.Steps.{Placed}
+use Rattle.trail.specs.declared.kept.Trail.{Trail}
 use Rattle.trail.proofs.Sounds.{refuted-by}
 use Rattle.decide.specs.Plans.{Among, Ordered, Barred}
 
@@ -108,3 +110,13 @@ module _ (X : (ℕ → Bool) → Bool) (val lits marks given : List ℕ) (d next
 pub barred : (row val lits marks given : List ℕ) (d next firm : ℕ) → Sound (allowed row) val lits marks d → Ordered given lits marks d next firm → next < length given → Refuted val (getD given next 0) → Barred row given
 barred row val lits marks given d next firm s o lt f p =
     false-from (allowed row p && every (lit p) given) (λ e. let both = and-parts (allowed row p) (every (lit p) given) e in no-way (allowed row) val lits marks given d next firm s o lt p (both .0) (both .1) f)
+
+-- the same at a trail that a literal was put on
+pub ordered-placed : (given : List ℕ) (t u : Trail) (next firm l mark : ℕ) → length (t .lits) ≡ 4096 → length (t .marks) ≡ 4096 → Placed t u l mark
+    → (mark ≡ 2) ⊎ (Among given l ⊎ (next ≡ length given)) → Ordered given (t .lits) (t .marks) (t .len) next firm → Ordered given (u .lits) (u .marks) (u .len) next firm
+ordered-placed given t u next firm l mark long deep p how o =
+    let within = p .within in
+    subst (λ z. Ordered given z (u .marks) (u .len) next firm) (sym (p .lits))
+    (subst (λ z. Ordered given (set (t .lits) (t .len) l) z (u .len) next firm) (sym (p .marks))
+      (subst (λ z. Ordered given (set (t .lits) (t .len) l) (set (t .marks) (t .len) mark) z next firm) (sym (p .more))
+        (ordered-push given (t .lits) (t .marks) (t .len) next firm o l mark (omega arith) (omega arith) how)))
