@@ -15,7 +15,7 @@ use Rattle.trail.specs.Trails.{Sound, Grew}
 use Rattle.trail.specs.Steps.{Steady, Placed, Pushed}
 use Rattle.trail.specs.declared.kept.Trail.{Trail}
 use Rattle.activity.specs.Cuts.{Free, Kept}
-use Rattle.cdcl.specs.Search.{Jumped, Empty, top, measure}
+use Rattle.cdcl_steps.specs.Search.{Jumped, Empty, top, measure}
 
 under : (X : (ℕ → Bool) → Bool) (t : Trail) → Steady X t → weight 4096 (take (t .len) (t .marks)) < top
 unfolding top

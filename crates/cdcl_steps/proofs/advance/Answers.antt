@@ -6,7 +6,7 @@ use Rattle.trail.specs.declared.kept.Trail.{Trail}
 use Rattle.decide.specs.Plans.{Ordered, Planned}
 use Rattle.decide.specs.declared.kept.Plan.{Plan}
 use Rattle.decide.proofs.Orders.{ordered-grew}
-use Rattle.cdcl.proofs.advance.Needs as need
+use Rattle.cdcl_steps.proofs.advance.Needs as need
 
 -- the plan is the same where its assumptions are
 replanned : (given : List ℕ) (t u : Trail) (a b : Plan) → b .next ≡ a .next → b .firm ≡ a .firm → Grew (t .marks) (t .lits) (t .len) (u .marks) (u .lits) (u .len) → Planned given t a → Planned given u b

@@ -11,9 +11,9 @@ use Rattle.trail.specs.declared.kept.Trail.{Trail}
 use Rattle.activity.specs.Cuts.{Kept}
 use Rattle.analyze.specs.Analysis.{Place, Jump}
 use Rattle.decide.proofs.Orders.{ordered-placed}
-use Rattle.cdcl.specs.Search.{Jumped, Jumps}
-use Rattle.cdcl.proofs.Turns.{turned-free, placed-from}
-use Rattle.cdcl.proofs.backjump.Needs as need
+use Rattle.cdcl_steps.specs.Search.{Jumped, Jumps}
+use Rattle.cdcl_steps.proofs.Turns.{turned-free, placed-from}
+use Rattle.cdcl_steps.proofs.backjump.Needs as need
 
 -- cut at the place that was drawn, and pushed to
 module _ (row buf : List ℕ) (t u v : Trail) (k : ℕ) (r : Bool) (at : Place (allowed row) (t .lits) (t .marks) (t .len) buf k) (kept : Kept t u k) (pushed : Pushed u v (getD buf 0 0) 2 r) where

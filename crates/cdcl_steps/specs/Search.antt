@@ -1,4 +1,4 @@
--- What the steps of a search leave, what it comes to, and what it ends by.
+-- What the steps of a search leave, and what it ends by.
 use mathlib.Core.Path.{_≡_}
 use mathlib.Core.List.{List}
 use mathlib.Core.Bool.{Bool, true, false}
@@ -7,10 +7,6 @@ use lib.ListN.{length, getD, set, take}
 use Rattle.weight.specs.Weight.{weight}
 use Rattle.implied.specs.Implied.{allowed, Pool}
 use Rattle.trail.specs.declared.kept.Trail.{Trail}
-use Rattle.verdict.specs.Verdict.{Hit}
-use Rattle.decide.specs.Plans.{Barred}
-use Rattle.cdcl.specs.declared.Outcome.{Outcome}
-use Rattle.cdcl.specs.declared.Outcome.the-variants.{Yes, No, Never}
 
 abbrev pub Stocked : ((ℕ → Bool) → Bool) → List ℕ → List ℕ → ℕ → ℕ → Type 0
 Stocked X pool starts count used = Pool X pool starts count used × (used ≤ length pool)
@@ -30,11 +26,6 @@ Empty row = (p : ℕ → Bool) → allowed row p ≡ false
 abbrev pub Jumps : List ℕ → Trail → Trail → Bool → Type 0
 Jumps row t t′ true = Jumped t t′
 Jumps row t t′ false = Empty row
-
-abbrev pub Ended : List ℕ → List ℕ → List ℕ → Outcome → Type 0
-Ended row given out Yes = Hit row given out
-Ended row given out No = Barred row given
-Ended row given out Never = Empty row
 
 -- no trail weighs as much
 unfoldable pub top : ℕ
