@@ -2,7 +2,7 @@
 use mathlib.Core.List.{List}
 use Prim.Native.Nat.{ℕ}
 use Rattle.verdict.specs.Verdict.{Hit}
-use Rattle.decide.specs.Plans.{Barred}
+use Rattle.decisions.specs.Plans.{Barred}
 use Rattle.cdcl_steps.specs.Search.{Empty}
 use Rattle.cdcl.specs.declared.Outcome.{Outcome}
 use Rattle.cdcl.specs.declared.Outcome.the-variants.{Yes, No, Never}

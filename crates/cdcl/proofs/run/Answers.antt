@@ -1,7 +1,7 @@
 use mathlib.Core.Path.{refl}
 use mathlib.Core.Logic.{inr}
 use Rattle.implied.specs.Implied.{allowed}
-use Rattle.decide.proofs.Orders.{ordered-placed}
+use Rattle.decisions.proofs.Orders.{ordered-placed}
 use Rattle.cdcl_steps.proofs.Turns.{decided-less, jumped-less, restart-less, placed-from}
 use Rattle.cdcl.proofs.run.Needs as need
 

@@ -1,6 +1,6 @@
 use Rattle.implied.specs.Implied.{allowed, Off}
 use Rattle.trail.specs.Steps.{Steady}
-use Rattle.decide.specs.Plans.{Planned}
+use Rattle.decisions.specs.Plans.{Planned}
 use Rattle.cdcl_steps.specs.Search.{Stocked, measure}
 use Rattle.cdcl.proofs.run.Given as given
 

@@ -3,9 +3,9 @@ use mathlib.Core.List.{List}
 use Prim.Native.Nat.{ℕ}
 use Rattle.trail.specs.Trails.{Grew}
 use Rattle.trail.specs.declared.kept.Trail.{Trail}
-use Rattle.decide.specs.Plans.{Ordered, Planned}
-use Rattle.decide.specs.declared.kept.Plan.{Plan}
-use Rattle.decide.proofs.Orders.{ordered-grew}
+use Rattle.decisions.specs.Plans.{Ordered, Planned}
+use Rattle.decisions.specs.declared.kept.Plan.{Plan}
+use Rattle.decisions.proofs.Orders.{ordered-grew}
 use Rattle.cdcl_steps.proofs.advance.Needs as need
 
 -- the plan is the same where its assumptions are

@@ -10,7 +10,7 @@ use Rattle.trail.specs.Steps.{Placed, Pushed}
 use Rattle.trail.specs.declared.kept.Trail.{Trail}
 use Rattle.activity.specs.Cuts.{Kept}
 use Rattle.analyze.specs.Analysis.{Place, Jump}
-use Rattle.decide.proofs.Orders.{ordered-placed}
+use Rattle.decisions.proofs.Orders.{ordered-placed}
 use Rattle.cdcl_steps.specs.Search.{Jumped, Jumps}
 use Rattle.cdcl_steps.proofs.Turns.{turned-free, placed-from}
 use Rattle.cdcl_steps.proofs.backjump.Needs as need

@@ -17,7 +17,7 @@ use Rattle.trail.specs.Trails.{Along, Refuted, Sound, Grew}
 use Rattle.trail.specs.Steps.{Placed}
 use Rattle.trail.specs.declared.kept.Trail.{Trail}
 use Rattle.trail.proofs.Sounds.{refuted-by}
-use Rattle.decide.specs.Plans.{Among, Ordered, Barred}
+use Rattle.decisions.specs.Plans.{Among, Ordered, Barred}
 
 pub ordered-none : (given lits marks : List ℕ) (d : ℕ) → ((j : ℕ) → j < d → getD marks j 0 ≡ 2) → Ordered given lits marks d 0 0
 ordered-none given lits marks d forced =

@@ -10,7 +10,7 @@ use Rattle.implied.specs.Implied.{allowed}
 use Rattle.implied.proofs.Literals.{lit-on, turned-back}
 use Rattle.trail.specs.Steps.{Steady, Pushed}
 use Rattle.trail.specs.declared.kept.Trail.{Trail}
-use Rattle.decide.proofs.put_known.Needs as need
+use Rattle.decisions.proofs.put_known.Needs as need
 
 pub push-requires : need.push-requires
 push-requires c κs =

@@ -5,9 +5,9 @@ use mathlib.Core.List.{List}
 use Prim.Native.Nat.{ℕ}
 use Rattle.trail.specs.declared.kept.Trail.{Trail}
 use Rattle.activity.specs.Cuts.{Kept}
-use Rattle.decide.specs.Plans.{Ordered}
-use Rattle.decide.proofs.Orders.{ordered-cut, ordered-again}
-use Rattle.decide.proofs.cut_back.Needs as need
+use Rattle.decisions.specs.Plans.{Ordered}
+use Rattle.decisions.proofs.Orders.{ordered-cut, ordered-again}
+use Rattle.decisions.proofs.cut_back.Needs as need
 
 -- the order at a trail that was cut, from that at its lists
 moved : (given : List ℕ) (t u : Trail) (k next firm : ℕ) → Kept t u k → Ordered given (t .lits) (t .marks) k next firm → Ordered given (u .lits) (u .marks) (u .len) next firm

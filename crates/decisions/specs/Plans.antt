@@ -13,7 +13,7 @@ use Rattle.activity.specs.Cuts.{Free}
 use Rattle.verdict.specs.Verdict.{Hit}
 use Rattle.verdict.specs.declared.Next.{Next}
 use Rattle.verdict.specs.declared.Next.the-variants.{Decide, Clash, Yes, No}
-use Rattle.decide.specs.declared.kept.Plan.{Plan}
+use Rattle.decisions.specs.declared.kept.Plan.{Plan}
 
 -- the literal is an assumption
 abbrev pub Among : List ℕ → ℕ → Type 0

@@ -3,8 +3,8 @@ use native.Mathlib.Omega.{arith}
 use lib.ListN.{length, getD}
 use Rattle.implied.specs.Implied.{allowed}
 use Rattle.trail.proofs.Sounds.{held-by}
-use Rattle.decide.proofs.Orders.{ordered-more, barred}
-use Rattle.decide.proofs.assume.Needs as need
+use Rattle.decisions.proofs.Orders.{ordered-more, barred}
+use Rattle.decisions.proofs.assume.Needs as need
 
 pub returns-then-x-eq0 : need.returns-then-x-eq0
 returns-then-x-eq0 c =

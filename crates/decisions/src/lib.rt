@@ -9,7 +9,7 @@ ghost use Rattle.rows.specs.Rows.{inside};
 ghost use Rattle.implied.specs.Implied.{allowed, Pool, Off};
 ghost use Rattle.trail.specs.Steps.{Steady};
 ghost use Rattle.activity.specs.Cuts.{Kept};
-ghost use Rattle.decide.specs.Plans.{Planned, Assumed, Chosen};
+ghost use Rattle.decisions.specs.Plans.{Planned, Assumed, Chosen};
 use activity::Order;
 use activity::pick;
 use activity::unwind;

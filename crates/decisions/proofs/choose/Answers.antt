@@ -3,7 +3,7 @@ use Prim.Native.Nat.{_*_, _<_, _≤_}
 use native.Mathlib.Omega.{arith}
 use lib.ListN.{length, getD}
 use Rattle.rows.proofs.Lits.{allotted-at}
-use Rattle.decide.proofs.choose.Needs as need
+use Rattle.decisions.proofs.choose.Needs as need
 
 pub assume-requires : need.assume-requires
 assume-requires c κs =

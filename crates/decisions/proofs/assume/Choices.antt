@@ -1,7 +1,7 @@
 use Prim.Native.Nat.{_-_}
 use lib.ListN.{length}
-use Rattle.decide.specs.Plans.{Planned}
-use Rattle.decide.proofs.assume.Given as given
+use Rattle.decisions.specs.Plans.{Planned}
+use Rattle.decisions.proofs.assume.Given as given
 
 abbrev pub Inv-loop-plan : given.InvT-loop-plan
 Inv-loop-plan l = Planned (l .given) (l .t) (l .plan)
