@@ -142,6 +142,16 @@ pub fn unwind(row: &[u16], t: &mut Trail, o: &mut Order, k: usize)
     }
 }
 
+// Keeps the values of the trail's variables, of which the first `n` are allotted, and puts these into the heap.
+pub fn refill(o: &mut Order, t: &Trail, n: usize) {
+    for v in 0..n.min(4096) {
+        if t.val[v] < 2 {
+            o.phase[v] = t.val[v];
+        }
+        insert(o, v as u16);
+    }
+}
+
 // Divides all activities by 2 ^ 40.
 fn rescale(o: &mut Order) {
     for v in 0..4096 {

@@ -9,6 +9,7 @@ ghost use Rattle.implied.specs.Implied.{allowed, Off};
 ghost use Rattle.cdcl_steps.specs.Search.{Stocked};
 ghost use Rattle.cdcl.specs.Ended.{Ended};
 use activity::Order;
+use activity::refill;
 use cdcl_steps::Tally;
 use cdcl_steps::advance;
 use cdcl_steps::backjump;
@@ -50,6 +51,7 @@ pub fn run(row: &[u16], given: &[u16], pool: &mut [u16], starts: &mut [u32], spa
     ensures offs { λ _. ⌜ Off (allowed (now (row .entry))) (now (off .exit)) ⌝ }
     ensures ended { λ r. ⌜ Ended (now (row .entry)) (now (given .entry)) (now (out .exit)) r ⌝ }
 {
+    refill(o, t, out.len());
     begin(row, off, t);
     let mut plan = Plan { next: 0, firm: 0, queue: 0, fixed: t.len, clash: NONE };
     let mut fuel: u32 = 4294967295;

@@ -6,7 +6,7 @@ ghost use Prim.Native.Nat.{ℕ, _+_, _≤_, _<_};
 ghost use lib.ListN.{length, getD};
 ghost use Rattle.chooser.specs.Ways.{allotted};
 ghost use Rattle.rows.specs.Rows.{inside};
-ghost use Rattle.implied.specs.Implied.{allowed, Pool, Off, Held, Below};
+ghost use Rattle.implied.specs.Implied.{allowed, Off, Held};
 ghost use Rattle.trail.specs.Trails.{Dead, Grew};
 ghost use Rattle.trail.specs.Steps.{Steady};
 ghost use Rattle.decisions.specs.Plans.{Planned, Chosen};
@@ -34,21 +34,23 @@ mod kept;
 
 pub use kept::Tally;
 
-// Returns how many levels the clause joins.
-fn glue_of(t: &Trail, buf: &[u16], m: usize, tally: &mut Tally) -> u16
-    ensures count { λ _. ⌜ now (tally .exit) .count ≡ now (tally .entry) .count ⌝ }
-    ensures used { λ _. ⌜ now (tally .exit) .used ≡ now (tally .entry) .used ⌝ }
-{
-    tally.clashes = tally.clashes.wrapping_add(1);
+// Returns how many levels the clause joins. `met` has the last clash in which each level was met.
+fn glue_of(t: &Trail, buf: &[u16], m: usize, met: &mut [u32], clash: u32) -> u16 {
     let mut glue: u16 = 1;
     for q in 0..m.min(buf.len()) {
-        let level = at16(&t.level, (buf[q] / 2) as usize) as usize % 4096;
-        if tally.met[level] != tally.clashes {
-            tally.met[level] = tally.clashes;
+        let level = at16(&t.level, (buf[q] / 2) as usize) as usize;
+        if level < met.len() && met[level] != clash {
+            met[level] = clash;
             glue = glue.saturating_add(1);
         }
     }
     glue
+}
+
+// Returns whether a clause of `m` literals can be learned, so that there is room for what is added later.
+fn has_room(pool: &[u16], starts: &[u32], m: usize, tally: &Tally) -> bool {
+    let wanted = tally.reserved.saturating_add(m);
+    tally.count < 2147483647 && pool.len().saturating_sub(tally.used) > wanted && starts.len().saturating_sub(tally.count) > tally.reserved / 3
 }
 
 // Puts the drawn clause into the pool, if there is room. Returns its number, or NONE.
@@ -59,9 +61,12 @@ fn learn(row: &[u16], pool: &mut [u16], starts: &mut [u32], buf: &[u16], m: usiz
     ensures { λ _. ⌜ Stocked (allowed (now (row .entry))) (now (pool .exit)) (now (starts .exit)) (now (tally .exit) .count) (now (tally .exit) .used) ⌝ }
 {
     let c = tally.count;
-    if c >= 2147483647 || !append(row, pool, starts, c, tally.used, buf, m) {
-        // No room: the next restart forgets.
+    if c >= 2147483647 || !has_room(pool, starts, m, tally) {
+        // The next restart forgets.
         tally.limit = 0;
+        return NONE;
+    }
+    if !append(row, pool, starts, c, tally.used, buf, m) {
         return NONE;
     }
     watch_first(pool, starts, w, c, tally.clashes, glue);
@@ -89,7 +94,8 @@ pub fn backjump(row: &[u16], given: &[u16], pool: &mut [u16], starts: &mut [u32]
     if cut.m == 0 {
         return false;
     }
-    let glue = glue_of(t, buf, cut.m, tally);
+    tally.clashes = tally.clashes.wrapping_add(1);
+    let glue = glue_of(t, buf, cut.m, w.met.as_mut_slice(), tally.clashes);
     reward(o, t, seen, w.heat.as_mut_slice(), tally.clashes);
     cut_back(row, given, t, o, plan, cut.k);
     let why = learn(row, pool, starts, buf, cut.m, w, tally, glue);

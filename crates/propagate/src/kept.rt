@@ -10,4 +10,6 @@ pub struct Watches {
     pub from: Vec<u16>,
     pub heat: Vec<u32>,
     pub glue: Vec<u16>,
+    // The last clash in which each level was met.
+    pub met: Vec<u32>,
 }
