@@ -1,7 +1,7 @@
 -- What a search comes to.
 use mathlib.Core.List.{List}
 use Prim.Native.Nat.{ℕ}
-use Rattle.verdict.specs.Verdict.{Hit}
+use Rattle.outcome.specs.Outcome.{Hit}
 use Rattle.decisions.specs.Plans.{Barred}
 use Rattle.cdcl_steps.specs.Search.{Empty}
 use Rattle.cdcl.specs.declared.Outcome.{Outcome}

@@ -20,7 +20,7 @@ use propagate::NONE;
 use propagate::Watches;
 use trail::Trail;
 use trail::push;
-use verdict::Next;
+use outcome::Next;
 
 // What a search came to: a way is written out, no allowed way meets the assumptions, or no way is allowed at all.
 #[derive(Clone, Copy)]

@@ -28,7 +28,7 @@ use propagate::watch_all;
 use propagate::watch_first;
 use trail::Trail;
 use trail::push;
-use verdict::Next;
+use outcome::Next;
 
 mod kept;
 

@@ -10,9 +10,9 @@ use Rattle.implied.specs.Implied.{allowed}
 use Rattle.trail.specs.Trails.{Dead}
 use Rattle.trail.specs.declared.kept.Trail.{Trail}
 use Rattle.activity.specs.Cuts.{Free}
-use Rattle.verdict.specs.Verdict.{Hit}
-use Rattle.verdict.specs.declared.Next.{Next}
-use Rattle.verdict.specs.declared.Next.the-variants.{Decide, Clash, Yes, No}
+use Rattle.outcome.specs.Outcome.{Hit}
+use Rattle.outcome.specs.declared.Next.{Next}
+use Rattle.outcome.specs.declared.Next.the-variants.{Decide, Clash, Yes, No}
 use Rattle.decisions.specs.declared.kept.Plan.{Plan}
 
 -- the literal is an assumption

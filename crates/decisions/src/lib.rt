@@ -22,8 +22,8 @@ use trail::Trail;
 use trail::clear;
 use trail::push;
 use trail::value;
-use verdict::Next;
-use verdict::conclude;
+use outcome::Next;
+use outcome::conclude;
 
 mod kept;
 

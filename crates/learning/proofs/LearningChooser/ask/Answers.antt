@@ -9,7 +9,7 @@ use Rattle.std.proofs.shelf.Tests.{and-left}
 use Rattle.chooser.specs.Ways.{allotted}
 use Rattle.rows.specs.Rows.{inside}
 use Rattle.rows.proofs.Meant.{same-self}
-use Rattle.verdict.specs.Verdict.{Hit}
+use Rattle.outcome.specs.Outcome.{Hit}
 use Rattle.decisions.specs.Plans.{Barred}
 use Rattle.cdcl_steps.specs.Search.{Empty}
 use Rattle.learning.specs.Means.{learning-means}

@@ -4,7 +4,7 @@ use Prim.Native.Nat.{_+_}
 use lib.ListN.{getD, drop}
 use Rattle.std.proofs.shelf.Lists.{at-drop-more, at-drop-all}
 use Rattle.chooser.specs.Ways.{lit, some, written}
-use Rattle.verdict.proofs.meets.Needs as need
+use Rattle.outcome.proofs.meets.Needs as need
 
 pub returns-then-holds-in : need.returns-then-holds-in
 returns-then-holds-in c =

@@ -1,7 +1,7 @@
 use native.Mathlib.Omega.{arith}
 use Rattle.chooser.specs.Ways.{lit, written}
 use Rattle.rows.proofs.Lits.{every-from}
-use Rattle.verdict.proofs.denied.Needs as need
+use Rattle.outcome.proofs.denied.Needs as need
 
 pub returns : need.returns
 returns c =

@@ -4,8 +4,8 @@ use native.Mathlib.Omega.{arith}
 use lib.ListN.{length, getD}
 use Rattle.rows.proofs.Lits.{bits-from, allotted-at}
 use Rattle.implied.specs.Implied.{allowed}
-use Rattle.verdict.proofs.Checks.{copied-small, refuted-from, both-dead}
-use Rattle.verdict.proofs.conclude.Needs as need
+use Rattle.outcome.proofs.Checks.{copied-small, refuted-from, both-dead}
+use Rattle.outcome.proofs.conclude.Needs as need
 
 pub returns-then-i-given : need.returns-then-i-given
 returns-then-i-given c =

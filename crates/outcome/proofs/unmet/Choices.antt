@@ -4,7 +4,7 @@ use Prim.Native.Nat.{ℕ, _-_, _≤_}
 use lib.ListN.{length, drop}
 use Rattle.chooser.specs.Ways.{lit, written}
 use Rattle.rows.specs.Rows.{holds, inside}
-use Rattle.verdict.proofs.unmet.Given as given
+use Rattle.outcome.proofs.unmet.Given as given
 
 abbrev pub Inv-loop-s : given.InvT-loop-s
 Inv-loop-s l =

@@ -10,8 +10,8 @@ use Rattle.rows.specs.Rows.{holds}
 use Rattle.implied.specs.Implied.{allowed, Known}
 use Rattle.trail.specs.Trails.{Dead}
 use Rattle.activity.specs.Cuts.{Free}
-use Rattle.verdict.specs.declared.Next.{Next}
-use Rattle.verdict.specs.declared.Next.the-variants.{Decide, Clash, Yes, No}
+use Rattle.outcome.specs.declared.Next.{Next}
+use Rattle.outcome.specs.declared.Next.the-variants.{Decide, Clash, Yes, No}
 
 -- `out` writes the value of the variable k
 abbrev pub Copied : List ℕ → List ℕ → ℕ → Type 0

@@ -7,8 +7,8 @@ use Rattle.std.proofs.shelf.Tests.{and-parts, and-from}
 use Rattle.std.proofs.shelf.Lists.{at-drop-all}
 use Rattle.chooser.specs.Ways.{lit, some, written}
 use Rattle.rows.specs.Rows.{holds}
-use Rattle.verdict.proofs.Checks.{clause-fits, behind-inside, clause-holds, clause-failing}
-use Rattle.verdict.proofs.unmet.Needs as need
+use Rattle.outcome.proofs.Checks.{clause-fits, behind-inside, clause-holds, clause-failing}
+use Rattle.outcome.proofs.unmet.Needs as need
 
 pub part-meets-end : need.part-meets-end
 part-meets-end c = clause-fits (c .args .row .now) (length (c .args .out .now)) (c .loop-s .s) (c .loop-s-test .taken) (c .loop-s .inv .1)

@@ -9,7 +9,7 @@ ghost use Rattle.rows.specs.Rows.{inside};
 ghost use Rattle.implied.specs.Implied.{allowed};
 ghost use Rattle.trail.specs.Trails.{Dead};
 ghost use Rattle.trail.specs.Steps.{Steady};
-ghost use Rattle.verdict.specs.Verdict.{Copied, Failing, Checked, Denied, Onto, Concluded};
+ghost use Rattle.outcome.specs.Outcome.{Copied, Failing, Checked, Denied, Onto, Concluded};
 use implied::at8;
 use trail::Trail;
 use trail::value;

@@ -18,7 +18,7 @@ use Rattle.implied.specs.Implied.{allowed, Known}
 use Rattle.implied.proofs.Literals.{lit-off, turned-back}
 use Rattle.trail.specs.Trails.{Along, Dead, Refuted, Sound}
 use Rattle.trail.proofs.Sounds.{refuted-by}
-use Rattle.verdict.specs.Verdict.{Copied, Failing}
+use Rattle.outcome.specs.Outcome.{Copied, Failing}
 
 module _ (val out : List ℕ) (k : ℕ) (c : Copied val out k) where
   pub copied-small : getD out k 0 < 2
