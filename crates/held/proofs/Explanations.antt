@@ -38,13 +38,13 @@ pow-above i k =
 pub bit-pow : (j k : ℕ) → bit (2 ^ j) k ≡ eqb j k
 bit-pow j k =
     elim (cases-order j k) [
-      inl e ↦
-        ap (λ n. eqb (n / 2 ^ k % 2) 1) (ap (λ n. 2 ^ n) e ∙ omega arith) ∙ ap (λ n. eqb (n % 2) 1) (shl-shr 1 k) ∙ sym (eq-eqb j k e)
-    | inr (inl lt) ↦
-        ap (λ n. eqb (n % 2) 1) (div-eq-of-lt (pow-lt lt)) ∙ sym (ne-eqb j k (λ e. omega arith))
-    | inr (inr gt) ↦
-        let q : j ≡ suc (j - k - 1) + k = omega arith in
-        ap (λ n. eqb n 1) (ap (λ n. 2 ^ n / 2 ^ k % 2) q ∙ pow-above (j - k - 1) k) ∙ sym (ne-eqb j k (λ e. omega arith))
+      | inl e ↦
+          ap (λ n. eqb (n / 2 ^ k % 2) 1) (ap (λ n. 2 ^ n) e ∙ omega arith) ∙ ap (λ n. eqb (n % 2) 1) (shl-shr 1 k) ∙ sym (eq-eqb j k e)
+      | inr (inl lt) ↦
+          ap (λ n. eqb (n % 2) 1) (div-eq-of-lt (pow-lt lt)) ∙ sym (ne-eqb j k (λ e. omega arith))
+      | inr (inr gt) ↦
+          let q : j ≡ suc (j - k - 1) + k = omega arith in
+          ap (λ n. eqb n 1) (ap (λ n. 2 ^ n / 2 ^ k % 2) q ∙ pow-above (j - k - 1) k) ∙ sym (ne-eqb j k (λ e. omega arith))
     ]
 
 pub bit-zero : (k : ℕ) → bit 0 k ≡ false
@@ -56,27 +56,29 @@ past ws u long h = ap (λ n. bit n (u % 64)) (getD-past ws (u / 64) 0 (omega ari
 same-word : (u v : ℕ) → v / 64 ≡ u / 64 → eqb (u % 64) (v % 64) ≡ eqb u v
 same-word u v h =
     elim (cases-eq u v) [
-      inl e ↦ eq-eqb (u % 64) (v % 64) (ap (λ n. n % 64) e) ∙ sym (eq-eqb u v e)
-    | inr ne ↦ ne-eqb (u % 64) (v % 64) (λ e. ne (omega arith)) ∙ sym (ne-eqb u v ne)
+      | inl e ↦ eq-eqb (u % 64) (v % 64) (ap (λ n. n % 64) e) ∙ sym (eq-eqb u v e)
+      | inr ne ↦ ne-eqb (u % 64) (v % 64) (λ e. ne (omega arith)) ∙ sym (ne-eqb u v ne)
     ]
 
 pub adds-one : (ws : List ℕ) (u x : ℕ) → length ws ≡ 8 → u / 64 < 8 → x ≡ 2 ^ (u % 64)
-  → Adds ws (set ws (u / 64) (bitOr (getD ws (u / 64) 0) x)) (u ∷ [])
-adds-one ws u x long small is = record { has = λ v h.
+    → Adds ws (set ws (u / 64) (bitOr (getD ws (u / 64) 0) x)) (u ∷ [])
+adds-one ws u x long small is = record {
+  has = λ v h.
       elim (cases-eq (v / 64) (u / 64)) [
-        inl e ↦
-          ap (λ i. bit (getD (set ws (u / 64) (bitOr (getD ws (u / 64) 0) x)) i 0) (v % 64)) e
-          ∙ ap (λ n. bit n (v % 64)) (getD-set-same ws (u / 64) (bitOr (getD ws (u / 64) 0) x) 0 (omega arith))
-          ∙ bit-or (getD ws (u / 64) 0) x (v % 64)
-          ∙ ap (λ n. bit (getD ws n 0) (v % 64) || bit x (v % 64)) (sym e)
-          ∙ ap (λ n. contains ws v || bit n (v % 64)) is
-          ∙ ap (λ b. contains ws v || b) (bit-pow (u % 64) (v % 64) ∙ same-word u v e ∙ sym (or-false (eqb u v)))
-      | inr ne ↦
-          let other : v / 64 ≢ u / 64 = ne in
-          ap (λ n. bit n (v % 64)) (getD-set-other ws (u / 64) (v / 64) (bitOr (getD ws (u / 64) 0) x) 0 other)
-          ∙ sym (or-false (contains ws v))
-          ∙ ap (λ b. contains ws v || b) (sym (ap (λ b. b || false) (ne-eqb u v (λ e. ne (sym (ap (λ n. n / 64) e))))))
-      ] }
+        | inl e ↦
+            ap (λ i. bit (getD (set ws (u / 64) (bitOr (getD ws (u / 64) 0) x)) i 0) (v % 64)) e
+            ∙ ap (λ n. bit n (v % 64)) (getD-set-same ws (u / 64) (bitOr (getD ws (u / 64) 0) x) 0 (omega arith))
+            ∙ bit-or (getD ws (u / 64) 0) x (v % 64)
+            ∙ ap (λ n. bit (getD ws n 0) (v % 64) || bit x (v % 64)) (sym e)
+            ∙ ap (λ n. contains ws v || bit n (v % 64)) is
+            ∙ ap (λ b. contains ws v || b) (bit-pow (u % 64) (v % 64) ∙ same-word u v e ∙ sym (or-false (eqb u v)))
+        | inr ne ↦
+            let other : v / 64 ≢ u / 64 = ne in
+            ap (λ n. bit n (v % 64)) (getD-set-other ws (u / 64) (v / 64) (bitOr (getD ws (u / 64) 0) x) 0 other)
+            ∙ sym (or-false (contains ws v))
+            ∙ ap (λ b. contains ws v || b) (sym (ap (λ b. b || false) (ne-eqb u v (λ e. ne (sym (ap (λ n. n / 64) e))))))
+      ];
+}
 
 abbrev both-at : List ℕ → List ℕ → ℕ → ℕ
 both-at a b i = bitOr (getD a i 0) (getD b i 0)
@@ -100,6 +102,6 @@ at-joined a b (suc (suc (suc (suc (suc (suc (suc (suc i)))))))) h = absurd (omeg
 pub contains-joined : (a b : List ℕ) → length a ≡ 8 → length b ≡ 8 → (u : ℕ) → contains (joined a b) u ≡ (contains a u || contains b u)
 contains-joined a b p q u =
     elim (cases-lt (u / 64) 8) [
-      inl lt ↦ ap (λ n. bit n (u % 64)) (at-joined a b (u / 64) lt) ∙ bit-or (getD a (u / 64) 0) (getD b (u / 64) 0) (u % 64)
-    | inr ge ↦ past (joined a b) u refl ge ∙ sym (ap (λ x. x || contains b u) (past a u p ge) ∙ past b u q ge)
+      | inl lt ↦ ap (λ n. bit n (u % 64)) (at-joined a b (u / 64) lt) ∙ bit-or (getD a (u / 64) 0) (getD b (u / 64) 0) (u % 64)
+      | inr ge ↦ past (joined a b) u refl ge ∙ sym (ap (λ x. x || contains b u) (past a u p ge) ∙ past b u q ge)
     ]

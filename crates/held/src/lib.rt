@@ -1,4 +1,4 @@
 // What judging works with: explanations, which are sets of unknowns, and held terms in lent places.
 pub mod explanation;
-pub mod places;
 pub mod memory;
+pub mod places;

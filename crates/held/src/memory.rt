@@ -14,7 +14,11 @@ pub fn linked(memory: &[Place], link: usize) -> Place
     ensures { λ r. ⌜ r ≡ place-at (now (memory .entry)) link ⌝ }
 {
     if link == 0 || link > memory.len() {
-        return Place { held: Held::Missing, next: 0, size: 0 };
+        return Place {
+            held: Held::Missing,
+            next: 0,
+            size: 0,
+        };
     }
     memory[link - 1]
 }
@@ -24,7 +28,11 @@ fn walk(memory: &[Place], link: usize, count: usize) -> Held
     ensures { λ r. ⌜ r ≡ place-at (now (memory .entry)) (down (now (memory .entry)) link count) .held ⌝ }
 {
     let place = linked(memory, link);
-    if count == 0 { place.held } else { walk(memory, place.next, count - 1) }
+    if count == 0 {
+        place.held
+    } else {
+        walk(memory, place.next, count - 1)
+    }
 }
 
 // What a variable is bound to. Variables count from the oldest binding, and links go from the newest.
@@ -33,7 +41,11 @@ pub fn lookup(memory: &[Place], env: usize, variable: u8) -> Held
 {
     let size = linked(memory, env).size;
     let variable = variable as usize;
-    if variable < size { walk(memory, env, size - 1 - variable) } else { Held::Missing }
+    if variable < size {
+        walk(memory, env, size - 1 - variable)
+    } else {
+        Held::Missing
+    }
 }
 
 // Writes a binding at the place `top`: the newest of an environment.
@@ -44,7 +56,11 @@ pub fn push(memory: &mut [Place], top: usize, held: Held, env: usize)
     ensures bound { λ _. ⌜ ((x : Text) (ρ : Helds ℕ) (h : Spec ℕ) → Env (Reads x) (now (memory .entry)) top env ρ → Stands (Reads x) (now (memory .entry)) top held h → Env (Reads x) (now (memory .exit)) (top + 1) (top + 1) (ρ h++ (h h∷ h[]))) ⌝ }
 {
     let size = linked(memory, env).size.min(top) + 1;
-    memory[top] = Place { held, next: env, size };
+    memory[top] = Place {
+        held,
+        next: env,
+        size,
+    };
 }
 
 // Binds the arguments in a row to the next variables of an environment.
@@ -70,7 +86,11 @@ fn write_unknowns(memory: &mut [Place], top: usize, unknowns: &[u16], from: usiz
     if from >= unknowns.len() {
         return;
     }
-    memory[top] = Place { held: Held::Unknown(unknowns[from]), next: 0, size: 0 };
+    memory[top] = Place {
+        held: Held::Unknown(unknowns[from]),
+        next: 0,
+        size: 0,
+    };
     write_unknowns(memory, top + 1, unknowns, from + 1);
 }
 

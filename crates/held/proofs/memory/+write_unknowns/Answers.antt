@@ -6,9 +6,9 @@ use Rattle.held.proofs.memory.+write_unknowns.Needs as need
 
 pub returns-then-from-unknowns : need.returns-then-from-unknowns
 returns-then-from-unknowns t c = record {
-      same = λ i h. refl;
-      row = λ x. unknowns-none (Reads x) (c .args .memory .now) (c .args .top) _ (c .args .from) (c .args .unknowns .now) (c .if-from-unknowns .taken);
-    }
+  same = λ i h. refl;
+  row = λ x. unknowns-none (Reads x) (c .args .memory .now) (c .args .top) _ (c .args .from) (c .args .unknowns .now) (c .if-from-unknowns .taken);
+}
 
 pub returns : need.returns
 returns t c =

@@ -14,5 +14,5 @@ returns c =
       same = same-set m (c .args .top) _;
       held = ap (λ (p : Place). p .held) (getD-set-same m (c .args .top) _ no-place (c .pre));
       bound = λ x ρ h b s. env-push (Reads x) m (c .args .top) (c .args .env) _ (c .args .held) ρ h (c .pre)
-        (let low = env-size (Reads x) m (c .args .top) (c .args .env) ρ b in omega (arith, c .min-size .ensures, ap (λ (p : Place). p .size) (c .linked .ensures))) b s;
+          (let low = env-size (Reads x) m (c .args .top) (c .args .env) ρ b in omega (arith, c .min-size .ensures, ap (λ (p : Place). p .size) (c .linked .ensures))) b s;
     }

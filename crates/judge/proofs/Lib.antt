@@ -1,0 +1,5 @@
+pub mod Sets
+pub mod Texts
+pub mod Holding
+pub mod Agreeing
+pub mod Keeping
