@@ -1,11 +1,11 @@
 // Stand-in for the problem.
 ghost use mathlib.Core.Path.{_≡_};
-ghost use Prim.Native.Nat.{ℕ, _<_};
-ghost use lib.ListN.{length};
+ghost use Prim.Native.Nat.{ℕ, _<_, _≤_};
+ghost use lib.ListN.{length, getD};
 ghost use Rattle.syntax.specs.Terms.{Term, Terms, _t∷_};
-ghost use Rattle.syntax.specs.Typing.{constructors as count};
+ghost use Rattle.syntax.specs.Typing.{constructors as count, arguments};
 ghost use Rattle.syntax.specs.Problems.{sig-of};
-ghost use Rattle.judging.specs.Held.{body-of};
+ghost use Rattle.judging.specs.Held.{body-of, missing};
 ghost use Rattle.held.specs.Reading.{Text, Reads, ReadsAll};
 ghost use Rattle.judge.specs.Views.{Shows};
 
@@ -50,6 +50,20 @@ pub trait Problem {
 
     fn body(&self, function: u8) -> usize
         ensures { λ r. ⌜ (function < length (meaning (now (self .entry)) .problem .functions) → Reads (meaning (now (self .entry))) r (body-of (meaning (now (self .entry)) .problem) function)) ⌝ };
+
+    fn arguments(&self, ty: u8, constructor: u8) -> &[u8]
+        ensures is { λ r. ⌜ now r ≡ arguments (sig-of (meaning (now (self .entry)) .problem)) ty constructor ⌝ }
+        ensures few { λ r. ⌜ length (now r) ≤ 6 ⌝ };
+
+    fn unknowns(&self) -> &[u8]
+        ensures is { λ r. ⌜ now r ≡ meaning (now (self .entry)) .problem .unknowns ⌝ }
+        ensures few { λ r. ⌜ length (now r) ≤ 16 ⌝ };
+
+    fn goals(&self) -> usize
+        ensures { λ r. ⌜ r ≡ length (meaning (now (self .entry)) .problem .goals) ⌝ };
+
+    fn goal(&self, goal: usize) -> usize
+        ensures { λ r. ⌜ (goal < length (meaning (now (self .entry)) .problem .goals) → Reads (meaning (now (self .entry))) r (getD (meaning (now (self .entry)) .problem .goals) goal missing)) ⌝ };
 
     fn constructors(&self, ty: u8) -> u8
         ensures { λ r. ⌜ r ≡ count (sig-of (meaning (now (self .entry)) .problem)) ty ⌝ };

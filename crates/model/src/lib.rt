@@ -1,0 +1,4 @@
+// Model bytes: a partial value for each unknown of a problem, and the unknowns that they decide.
+pub mod reading;
+pub mod model;
+pub mod deciding;
