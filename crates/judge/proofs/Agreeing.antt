@@ -26,6 +26,8 @@ use Rattle.judge.specs.declared.answers.Verdict.{Verdict as CodeVerdict}
 use Rattle.judge.specs.declared.answers.Verdict.the-variants.{Out as OutV, Wait, Same as SameV, Differ}
 use Rattle.judge.specs.Views.{tlength}
 use Rattle.judge.specs.Means.{Explains, Agrees, Concurs}
+use Rattle.judge.specs.declared.verdicts.Judgement.the-variants.{False, True}
+use Rattle.judge.specs.Outcomes.{outcome}
 use Rattle.judge.proofs.Sets.{adds-append}
 
 module _ (p : Problem) (K : Unknowns ℕ) where
@@ -129,3 +131,11 @@ module _ (R : ℕ → Term → Type 0) (A : Asks ℕ) (m : List Place) (top : �
   pairs-more i j count s (x h∷ xs) h[] l a b r pos long rx ry go = absurd (omega arith)
   pairs-more i j count s (x h∷ xs) (y h∷ ys) l a b r pos long rx ry go =
       go x y xs ys (rx .1) (ry .1) (omega arith) (rx .2) (ry .2)
+
+pub false-said : (c : ℕ) (xs : Helds ℕ) (E : List ℕ) (s : ℕ) → c ≡ 0 → outcome (some (is c xs E, s)) ≡ False
+false-said zero xs E s z = refl
+false-said (suc c) xs E s z = absurd (omega arith)
+
+pub true-said : (c : ℕ) (xs : Helds ℕ) (E : List ℕ) (s : ℕ) → 0 < c → outcome (some (is c xs E, s)) ≡ True
+true-said zero xs E s z = absurd (omega arith)
+true-said (suc c) xs E s z = refl

@@ -1,3 +1,4 @@
 pub mod Decisions
 pub mod Views
 pub mod Means
+pub mod Outcomes

@@ -59,7 +59,7 @@ fn write_starts<P: Problem>(problem: &P, bytes: &[u8], types: &[u8], children: &
     write_starts(problem, bytes, types, children, next + 1, end);
 }
 
-impl<P: Problem> Decides for Model<'_, P> as ModelDecides {
+pub impl<P: Problem> Decides for Model<'_, P> as ModelDecides {
     ghost unknowns = { λ s. decided-by (P·Problem .meaning (held (s .problem)) .problem) (held (s .bytes)) (take (s .count) (s .roots)) };
 
     fn root(&self, unknown: u8) -> u16 {
