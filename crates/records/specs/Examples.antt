@@ -1,7 +1,6 @@
 -- Worked examples of the reading. Assumes nothing.
 use mathlib.Core.Path.{_≡_, refl}
-use mathlib.Core.List.{List, [], _∷_}
-use Prim.Native.Nat.{ℕ}
+use mathlib.Core.List.{[], _∷_}
 use Rattle.std.specs.declared.result.Result.the-variants.{Ok, Err}
 use Rattle.syntax.specs.declared.faults.Reason.the-variants.{NoMark, PastEnd, BadCount, BytesAfter}
 use Rattle.syntax.specs.Faults.{fault}

@@ -1,3 +1,6 @@
 pub mod Raw
 pub mod Reading
 pub mod Examples
+pub mod Next
+pub mod Readers
+pub mod Handed

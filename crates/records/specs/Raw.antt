@@ -1,5 +1,5 @@
 -- What the records of a problem hold while its terms are still bytes, and the bytes that write them. Assumes nothing.
-use mathlib.Core.List.{List, [], _∷_, _++_}
+use mathlib.Core.List.{List, _∷_, _++_}
 use Prim.Native.Nat.{ℕ, _≤_}
 use lib.ListN.{length}
 use Rattle.syntax.specs.Typing.{Profile}

@@ -1,6 +1,6 @@
 -- Reading the records front to back: what they hold, or the first fault with its place. Assumes nothing.
-use mathlib.Core.Bool.{Bool, true, false, cond, _&&_}
-use mathlib.Core.List.{List, [], _∷_, _++_}
+use mathlib.Core.Bool.{Bool, false, cond, _&&_}
+use mathlib.Core.List.{List, [], _∷_}
 use Prim.Native.Nat.{ℕ, zero, suc, _+_, _*_}
 use lib.Dec.{eqb, leb}
 use lib.ListN.{length, take, drop}
@@ -9,7 +9,6 @@ use Rattle.std.specs.declared.result.Result.the-variants.{Ok, Err}
 use Rattle.syntax.specs.declared.faults.Fault.{Fault}
 use Rattle.syntax.specs.declared.faults.Reason.the-variants.{TooLong, NoMark, PastEnd, BadCount, BytesAfter}
 use Rattle.syntax.specs.Faults.{fault}
-use Rattle.syntax.specs.Typing.{Profile}
 use Rattle.records.specs.Raw.{Raw, Raw-function}
 
 -- what was read, the bytes after it, and their place

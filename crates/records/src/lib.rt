@@ -1,1 +1,4 @@
-// Reads the records of a problem.
+// Reads the records of a problem one after another.
+pub mod next;
+mod parts;
+pub mod reader;

@@ -1,0 +1,4 @@
+pub mod First
+pub mod Walks
+pub mod Declared
+pub mod Tables

@@ -1,0 +1,4 @@
+pub mod Ending
+pub mod Filling
+pub mod Prefixes
+pub mod Values

@@ -1,0 +1,4 @@
+pub mod Tables
+pub mod Lawfulness
+pub mod Standing
+pub mod Views

@@ -1,0 +1,5 @@
+pub mod Tables
+pub mod Complete
+pub mod Sound
+pub mod Early
+pub mod Verdicts

@@ -1,0 +1,5 @@
+pub mod Turns
+pub mod Entries
+pub mod RecordKinds
+pub mod Exactness
+pub mod Assembling

@@ -1,0 +1,3 @@
+pub mod Tabled
+pub mod Sections
+pub mod Exact

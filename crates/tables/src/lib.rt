@@ -1,0 +1,3 @@
+// Reads the records of a problem into tables.
+pub mod filling;
+mod sections;

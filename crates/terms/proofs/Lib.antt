@@ -1,0 +1,4 @@
+pub mod Opening
+pub mod Piles
+pub mod Advancing
+pub mod Checking

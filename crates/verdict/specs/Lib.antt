@@ -1,0 +1,4 @@
+pub mod Verdict
+pub mod Exact
+pub mod Examined
+pub mod ByTables
