@@ -25,7 +25,7 @@ was-accepted (Ok p) e = refl
 was-accepted (Err f) e = absurd (false≢true e)
 
 -- terms that are read have the bytes of the records
-same-bytes : (r : Raw) (p : Problem) → terms-in r ≡ Ok p → encode-problem p ≡ write r
+pub same-bytes : (r : Raw) (p : Problem) → terms-in r ≡ Ok p → encode-problem p ≡ write r
 same-bytes r p e =
     let one = was-ok (bodies-in (declared-by r) (r .functions) (functions-start r)) _ e in
     let two = was-ok (goals-in (declared-by r) (r .goals) (goals-start r)) _ (one .2) in

@@ -1,4 +1,5 @@
-pub mod Tables
+pub mod Entries
 pub mod Lawfulness
 pub mod Standing
 pub mod Views
+pub mod Filling

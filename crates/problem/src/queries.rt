@@ -3,7 +3,7 @@ ghost use mathlib.Core.Path.{_≡_};
 ghost use Prim.Native.Nat.{_+_, _<_};
 ghost use lib.ListN.{length, getD};
 ghost use Rattle.syntax.specs.Typing.{constructors as constructors-of, arguments as arguments-of, params-of, result-of};
-ghost use Rattle.syntax.specs.Tables.{listed, declared-in};
+ghost use Rattle.syntax.specs.Tables.{declared-in};
 ghost use Rattle.syntax.specs.Least.{least-of, need-of};
 ghost use Rattle.ends.specs.Ends.{hop};
 ghost use Rattle.verdict.specs.Exact.{Encodes};
@@ -12,6 +12,7 @@ ghost use Rattle.problem.specs.Meant.{held, meant, sig, ends, Body-stands, Goa
 ghost use Rattle.problem.specs.Views.{view-by, view-at, Shows-all};
 use crate::problem::Problem;
 use crate::view::View;
+use declarations::types_in;
 use reading::lookup;
 use reading::lookup::cases;
 use reading::lookup::size;
@@ -21,14 +22,6 @@ use syntax::tables::TypeList;
 
 // The least depth that stands for a type without a value no deeper than 8.
 const NO_VALUE: u8 = 9;
-
-// The types of a list.
-fn types_of(list: &TypeList) -> &[u8]
-    ensures { λ r. ⌜ now r ≡ listed (now (list .entry)) ⌝ }
-{
-    let types: &[u8] = &list.types;
-    &types[0..size(list) as usize]
-}
 
 impl Problem {
     // The tables as declarations.
@@ -73,7 +66,7 @@ impl Problem {
         }
         let types = self.types.as_slice();
         let constructors: &[TypeList] = &types[t as usize].constructors;
-        types_of(&constructors[c as usize])
+        types_in(&constructors[c as usize])
     }
 
     // The least depth of a type's values, 9 where there is no such type.
@@ -113,7 +106,7 @@ impl Problem {
             return &[];
         }
         let functions = self.functions.as_slice();
-        types_of(&functions[f as usize].params)
+        types_in(&functions[f as usize].params)
     }
 
     // The type of a function's result, Bool where there is no such function.

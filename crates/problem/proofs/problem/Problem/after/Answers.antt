@@ -3,7 +3,7 @@ use native.Mathlib.Omega.{arith}
 use Rattle.std.specs.Of.Vec.{vec-items}
 use Rattle.ends.specs.Ends.{hop}
 use Rattle.problem.specs.Meant.{held, sig, ends}
-use Rattle.problem.proofs.Tables.{hop-within, hop-past}
+use Rattle.problem.proofs.Entries.{hop-within, hop-past}
 use Rattle.problem.proofs.Views.{comes-after}
 use Rattle.problem.proofs.problem.Problem.after.Needs as need
 

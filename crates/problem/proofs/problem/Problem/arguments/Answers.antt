@@ -9,7 +9,7 @@ use Rattle.syntax.specs.Tables.{listed}
 use Rattle.syntax.specs.Typing.{cases-of}
 use Rattle.reading.proofs.Tables.{no-list, no-datatype}
 use Rattle.problem.specs.Meant.{sig}
-use Rattle.problem.proofs.Tables.{type-there, arguments-there}
+use Rattle.problem.proofs.Entries.{type-there, arguments-there}
 use Rattle.problem.proofs.problem.Problem.arguments.Needs as need
 
 pub returns-then-c-constructors : need.returns-then-c-constructors
@@ -25,6 +25,6 @@ index-types-t c =
 pub returns : need.returns
 returns c =
     let p = c .args .self .now in
-    c .types-of .ensures
+    c .types-in .ensures .is
     ∙ ap (λ ds. listed (getD (getD ds (c .args .t) no-datatype .constructors) (c .args .c) no-list)) (c .as-slice-types .ensures .value)
     ∙ arguments-there (vec-items (p .types)) (sig p .types) (c .args .t) (c .args .c) (p .«types_held») (omega arith)

@@ -1,7 +1,7 @@
 use mathlib.Core.Path.{_∙_}
 use Rattle.std.specs.Of.Vec.{vec-items}
 use Rattle.problem.specs.Meant.{meant}
-use Rattle.problem.proofs.Tables.{same-length}
+use Rattle.problem.proofs.Entries.{same-length}
 use Rattle.problem.proofs.problem.Problem.functions.Needs as need
 
 pub returns : need.returns

@@ -4,7 +4,7 @@ use native.Mathlib.Omega.{arith}
 use Rattle.std.specs.Of.Vec.{vec-items}
 use Rattle.problem.specs.Layout.{goal-places}
 use Rattle.problem.specs.Meant.{held, meant}
-use Rattle.problem.proofs.Tables.{read-map, past-map}
+use Rattle.problem.proofs.Entries.{read-map, past-map}
 use Rattle.problem.proofs.Lawfulness.{is-encoded}
 use Rattle.problem.proofs.Standing.{goal-stands}
 use Rattle.problem.proofs.problem.Problem.goal.Needs as need

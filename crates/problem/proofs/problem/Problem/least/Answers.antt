@@ -5,7 +5,7 @@ use Rattle.std.specs.Of.Vec.{vec-items}
 use Rattle.std.proofs.shelf.Lists.{length-map}
 use Rattle.syntax.specs.Tables.{cases-in}
 use Rattle.problem.specs.Meant.{sig}
-use Rattle.problem.proofs.Tables.{no-type}
+use Rattle.problem.proofs.Entries.{no-type}
 use Rattle.problem.proofs.problem.Problem.least.Needs as need
 
 pub returns-else-t-len : need.returns-else-t-len

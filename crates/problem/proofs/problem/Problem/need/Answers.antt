@@ -8,7 +8,7 @@ use Rattle.std.proofs.shelf.Lists.{getD-past, getD-read}
 use Rattle.syntax.specs.Typing.{cases-of}
 use Rattle.syntax.specs.Least.{greatest, least-of}
 use Rattle.problem.specs.Meant.{sig}
-use Rattle.problem.proofs.Tables.{type-there}
+use Rattle.problem.proofs.Entries.{type-there}
 use Rattle.problem.proofs.problem.Problem.need.Needs as need
 
 pub returns-then-c-constructors : need.returns-then-c-constructors

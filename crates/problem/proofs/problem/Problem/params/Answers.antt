@@ -9,7 +9,7 @@ use Rattle.syntax.specs.Tables.{listed}
 use Rattle.syntax.specs.Typing.{Profile, no-profile}
 use Rattle.reading.proofs.Tables.{no-callable}
 use Rattle.problem.specs.Meant.{meant}
-use Rattle.problem.proofs.Tables.{read-map, past-map, part-at}
+use Rattle.problem.proofs.Entries.{read-map, past-map, part-at}
 use Rattle.problem.proofs.problem.Problem.params.Needs as need
 
 pub returns-then-f-len : need.returns-then-f-len
@@ -25,7 +25,7 @@ returns c =
     let fs = vec-items (p .functions) in
     let long = p .functions .ok .0 in
     let low : c .args .f < length fs = omega arith in
-    c .types-of .ensures
+    c .types-in .ensures .is
     ∙ ap (λ cs. listed (getD cs (c .args .f) no-callable .params)) (c .as-slice-functions .ensures .value)
     ∙ read-map (λ f. listed (f .params)) fs (map (λ f. f .profile .params) (meant p .functions)) (c .args .f) (getD fs (c .args .f) no-callable) []
     (p .«params_held») low (getD-default fs (c .args .f) no-callable (getD fs (c .args .f) no-callable) low)

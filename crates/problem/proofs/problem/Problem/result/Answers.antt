@@ -4,7 +4,7 @@ use native.Mathlib.Omega.{arith}
 use Rattle.std.specs.Of.Vec.{vec-items}
 use Rattle.syntax.specs.Typing.{Profile, no-profile}
 use Rattle.problem.specs.Meant.{meant}
-use Rattle.problem.proofs.Tables.{read-map, past-map, part-at}
+use Rattle.problem.proofs.Entries.{read-map, past-map, part-at}
 use Rattle.problem.proofs.problem.Problem.result.Needs as need
 
 pub returns-then-f-len : need.returns-then-f-len
