@@ -3,8 +3,8 @@ use mathlib.Core.Path.{_≡_}
 use mathlib.Core.List.{List, _++_}
 use Prim.Native.Nat.{ℕ}
 use lib.ListN.{drop}
-use Rattle.syntax.specs.Terms.{Term, Terms, encode, encodes}
-use Rattle.syntax.specs.Typing.{HasType, Want, AllTyped}
+use Rattle.syntax.specs.Terms.{Term, encode}
+use Rattle.syntax.specs.Typing.{HasType}
 use Rattle.syntax.specs.Problems.{Problem, sig-of}
 
 -- a problem and the bytes that write it
@@ -19,10 +19,3 @@ pub record Reads (x : Text) (place : ℕ) (t : Term) : Type 0 where
   pub others : List ℕ
   pub here : drop place (x .bytes) ≡ encode t ++ others
   pub typed : HasType (sig-of (x .problem)) scope t ty
-
--- the terms are written one after another from the place on, and have types
-pub record ReadsAll (x : Text) (place : ℕ) (ts : Terms) : Type 0 where
-  pub wants : List Want
-  pub others : List ℕ
-  pub here : drop place (x .bytes) ≡ encodes ts ++ others
-  pub typed : AllTyped (sig-of (x .problem)) wants ts

@@ -24,7 +24,7 @@ use Rattle.judge.specs.declared.answers.Head.{Head as CodeHead}
 use Rattle.judge.specs.declared.answers.Head.the-variants.{Out, Waits, Is}
 use Rattle.judge.specs.declared.answers.Verdict.{Verdict as CodeVerdict}
 use Rattle.judge.specs.declared.answers.Verdict.the-variants.{Out as OutV, Wait, Same as SameV, Differ}
-use Rattle.judge.specs.Views.{tlength}
+use Rattle.judge.specs.Texts.{tlength}
 use Rattle.judge.specs.Means.{Explains, Agrees, Concurs}
 use Rattle.judge.specs.declared.verdicts.Judgement.the-variants.{False, True}
 use Rattle.judge.specs.Outcomes.{outcome}

@@ -6,13 +6,13 @@ use native.Mathlib.Omega.{arith}
 use lib.ListN.{length, getD}
 use Rattle.syntax.specs.Terms.{Term, Terms, t[], _t∷_}
 use Rattle.judging.specs.Held.{Held, hold, Helds, h[], _h∷_, holds, frees, _h++_}
-use Rattle.held.specs.Reading.{Text, Reads, ReadsAll}
+use Rattle.held.specs.Reading.{Text, Reads}
 use Rattle.held.specs.Standing.{no-place, hlength, Stands, Env, Row, Same}
 use Rattle.held.proofs.Standing.{binds-grows, same-trans, h++-assoc, h++-none}
 use Rattle.held.specs.declared.places.Held.{Held as Code}
 use Rattle.held.specs.declared.places.Held.the-variants.{Term as At}
 use Rattle.held.specs.declared.places.Place.{Place}
-use Rattle.judge.specs.Views.{tlength}
+use Rattle.judge.specs.Texts.{ReadsAll, tlength}
 use Rattle.judge.proofs.Texts.{first-of}
 
 pub frees-length : (us : List ℕ) → length us ≡ hlength (frees us)

@@ -1,4 +1,5 @@
 pub mod Sets
+pub mod Limits
 pub mod Texts
 pub mod Holding
 pub mod Agreeing

@@ -9,11 +9,11 @@ use Rattle.syntax.specs.Problems.{sig-of}
 use Rattle.judging.specs.Held.{Held, hold, Helds}
 use Rattle.judging.specs.Judging.{Unknowns, Head, is, waits, Verdict, same, differ, wait, headed, compared, pairs, judges}
 use Rattle.held.specs.Explanations.{contains, member, Adds}
-use Rattle.held.specs.Reading.{Text, Reads, ReadsAll}
+use Rattle.held.specs.Reading.{Text, Reads}
 use Rattle.held.specs.Standing.{hlength, Stands, Row, Env, Same}
 use Rattle.held.specs.declared.places.Held.{Held as Code}
 use Rattle.held.specs.declared.places.Place.{Place}
-use Rattle.judge.specs.Views.{tlength}
+use Rattle.judge.specs.Texts.{ReadsAll, tlength}
 use Rattle.judge.specs.declared.answers.Left.{Left}
 use Rattle.judge.specs.declared.answers.Head.{Head as CodeHead}
 use Rattle.judge.specs.declared.answers.Head.the-variants.{Out, Waits, Is}

@@ -1,17 +1,14 @@
 -- What a view of a place says of the term that is written there. Assumes nothing.
 use mathlib.Core.Path.{_≡_}
-use Prim.Native.Nat.{ℕ, suc, _<_, _≤_}
+use Prim.Native.Nat.{ℕ, _<_, _≤_}
 use lib.ListN.{length}
-use Rattle.syntax.specs.Terms.{Term, var, unknown, con, call, case, both, not, equal, Terms, t[], _t∷_}
+use Rattle.syntax.specs.Terms.{Term, var, unknown, con, call, case, both, not, equal, Terms, _t∷_}
 use Rattle.syntax.specs.Typing.{constructors}
 use Rattle.syntax.specs.Problems.{sig-of}
-use Rattle.held.specs.Reading.{Text, Reads, ReadsAll}
-use Rattle.judge.specs.declared.text.View.{View}
-use Rattle.judge.specs.declared.text.View.the-variants.{Variable, Unknown, Constructor, Call, Case, And, Not, Equal}
-
-abbrev pub tlength : Terms → ℕ
-tlength t[] = 0
-tlength (t t∷ ts) = suc (tlength ts)
+use Rattle.problem.specs.declared.view.View.{View}
+use Rattle.problem.specs.declared.view.View.the-variants.{Variable, Unknown, Constructor, Call, Case, And, Not, Equal, Nothing}
+use Rattle.held.specs.Reading.{Text, Reads}
+use Rattle.judge.specs.Texts.{ReadsAll, tlength}
 
 -- By cases on the view, so that a known view gives the term's equation at once.
 abbrev pub Shows : Text → View → Term → Type 0
@@ -25,3 +22,4 @@ Shows x (Case ty s) t =
 Shows x (And l r) t = (a b : Term) × (t ≡ both a b) × Reads x l a × Reads x r b
 Shows x (Not s) t = (a : Term) × (t ≡ not a) × Reads x s a
 Shows x (Equal l r) t = (ty : ℕ) × (a b : Term) × (t ≡ equal ty a b) × Reads x l a × Reads x r b
+Shows x Nothing t = ⊥

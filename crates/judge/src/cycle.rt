@@ -2,6 +2,7 @@
 ghost use mathlib.Core.Path.{_≡_};
 ghost use Prim.Native.Nat.{ℕ, _+_, _*_, _<_, _≤_};
 ghost use lib.ListN.{length};
+ghost use Rattle.judge.specs.Texts.{text-of};
 ghost use Rattle.judge.specs.Means.{Heads, Terms-heads, Cases-heads, Ands-heads, Compares, Compared, Pairs, Few, Kept};
 use crate::answers::Head;
 use crate::answers::Left;
@@ -17,17 +18,17 @@ use crate::outcomes::truth;
 use crate::terms::decided;
 use crate::terms::hold_branch;
 use crate::terms::hold_terms;
-use crate::text::Problem;
-use crate::text::View;
 use held::explanation::Explanation;
 use held::memory::bind;
 use held::memory::lookup;
 use held::places::Held;
 use held::places::Place;
+use problem::problem::Problem;
+use problem::view::View;
 
 // The head of a held term, for one step.
-pub fn head<P: Problem, D: Decides>(
-    problem: &P,
+pub fn head<D: Decides>(
+    problem: &Problem,
     decider: &D,
     memory: &mut [Place],
     left: &mut Left,
@@ -37,7 +38,7 @@ pub fn head<P: Problem, D: Decides>(
     requires { ⌜ now left .top + 6 * now left .steps ≤ length (now memory) ⌝ }
     ensures kept { λ r. ⌜ Kept 0 (now (memory .entry)) (now (memory .exit)) (now (left .entry)) (now (left .exit)) ⌝ }
     ensures few { λ r. ⌜ Few r ⌝ }
-    ensures heads { λ r. ⌜ Heads (meaning (now (problem .entry))) (unknowns (now (decider .entry))) (now (memory .entry)) (now (left .entry)) (now (because .entry) .words) (now (memory .exit)) (now (left .exit)) (now (because .exit) .words) at r ⌝ }
+    ensures heads { λ r. ⌜ Heads (text-of (now (problem .entry))) (unknowns (now (decider .entry))) (now (memory .entry)) (now (left .entry)) (now (because .entry) .words) (now (memory .exit)) (now (left .exit)) (now (because .exit) .words) at r ⌝ }
 {
     if left.steps == 0 {
         return Head::Out;
@@ -63,8 +64,8 @@ pub fn head<P: Problem, D: Decides>(
 }
 
 // The head of a term in an environment, once its step is taken.
-fn head_of_term<P: Problem, D: Decides>(
-    problem: &P,
+fn head_of_term<D: Decides>(
+    problem: &Problem,
     decider: &D,
     memory: &mut [Place],
     left: &mut Left,
@@ -75,7 +76,7 @@ fn head_of_term<P: Problem, D: Decides>(
     requires { ⌜ now left .top + 6 * now left .steps + 6 ≤ length (now memory) ⌝ }
     ensures kept { λ r. ⌜ Kept 6 (now (memory .entry)) (now (memory .exit)) (now (left .entry)) (now (left .exit)) ⌝ }
     ensures few { λ r. ⌜ Few r ⌝ }
-    ensures heads { λ r. ⌜ Terms-heads (meaning (now (problem .entry))) (unknowns (now (decider .entry))) (now (memory .entry)) (now (left .entry)) (now (because .entry) .words) (now (memory .exit)) (now (left .exit)) (now (because .exit) .words) place env r ⌝ }
+    ensures heads { λ r. ⌜ Terms-heads (text-of (now (problem .entry))) (unknowns (now (decider .entry))) (now (memory .entry)) (now (left .entry)) (now (because .entry) .words) (now (memory .exit)) (now (left .exit)) (now (because .exit) .words) place env r ⌝ }
 {
     match problem.view(place) {
         View::Variable(variable) => {
@@ -164,12 +165,14 @@ fn head_of_term<P: Problem, D: Decides>(
             );
             truth(v)
         }
+        // No term stands there.
+        View::Nothing => Head::Out,
     }
 }
 
 // A case: the head of its subject, and then of that branch.
-fn head_of_case<P: Problem, D: Decides>(
-    problem: &P,
+fn head_of_case<D: Decides>(
+    problem: &Problem,
     decider: &D,
     memory: &mut [Place],
     left: &mut Left,
@@ -181,7 +184,7 @@ fn head_of_case<P: Problem, D: Decides>(
     requires { ⌜ now left .top + 6 * now left .steps + 6 ≤ length (now memory) ⌝ }
     ensures kept { λ r. ⌜ Kept 6 (now (memory .entry)) (now (memory .exit)) (now (left .entry)) (now (left .exit)) ⌝ }
     ensures few { λ r. ⌜ Few r ⌝ }
-    ensures heads { λ r. ⌜ Cases-heads (meaning (now (problem .entry))) (unknowns (now (decider .entry))) (now (memory .entry)) (now (left .entry)) (now (because .entry) .words) (now (memory .exit)) (now (left .exit)) (now (because .exit) .words) ty subject env r ⌝ }
+    ensures heads { λ r. ⌜ Cases-heads (text-of (now (problem .entry))) (unknowns (now (decider .entry))) (now (memory .entry)) (now (left .entry)) (now (because .entry) .words) (now (memory .exit)) (now (left .exit)) (now (because .exit) .words) ty subject env r ⌝ }
 {
     match head(
         problem,
@@ -211,8 +214,8 @@ fn head_of_case<P: Problem, D: Decides>(
 }
 
 // An `and`: its left side, which may decide it, and then its right side.
-fn head_of_and<P: Problem, D: Decides>(
-    problem: &P,
+fn head_of_and<D: Decides>(
+    problem: &Problem,
     decider: &D,
     memory: &mut [Place],
     left: &mut Left,
@@ -224,7 +227,7 @@ fn head_of_and<P: Problem, D: Decides>(
     requires { ⌜ now left .top + 6 * now left .steps ≤ length (now memory) ⌝ }
     ensures kept { λ r. ⌜ Kept 0 (now (memory .entry)) (now (memory .exit)) (now (left .entry)) (now (left .exit)) ⌝ }
     ensures few { λ r. ⌜ Few r ⌝ }
-    ensures heads { λ r. ⌜ Ands-heads (meaning (now (problem .entry))) (unknowns (now (decider .entry))) (now (memory .entry)) (now (left .entry)) (now (because .entry) .words) (now (memory .exit)) (now (left .exit)) (now (because .exit) .words) a b env r ⌝ }
+    ensures heads { λ r. ⌜ Ands-heads (text-of (now (problem .entry))) (unknowns (now (decider .entry))) (now (memory .entry)) (now (left .entry)) (now (because .entry) .words) (now (memory .exit)) (now (left .exit)) (now (because .exit) .words) a b env r ⌝ }
 {
     let mut own = Explanation::nothing();
     match head(
@@ -270,8 +273,8 @@ fn head_of_and<P: Problem, D: Decides>(
 }
 
 // Whether two held terms are the same, for one step.
-pub fn compare<P: Problem, D: Decides>(
-    problem: &P,
+pub fn compare<D: Decides>(
+    problem: &Problem,
     decider: &D,
     memory: &mut [Place],
     left: &mut Left,
@@ -281,7 +284,7 @@ pub fn compare<P: Problem, D: Decides>(
 ) -> Verdict
     requires { ⌜ now left .top + 6 * now left .steps ≤ length (now memory) ⌝ }
     ensures kept { λ r. ⌜ Kept 0 (now (memory .entry)) (now (memory .exit)) (now (left .entry)) (now (left .exit)) ⌝ }
-    ensures compares { λ r. ⌜ Compares (meaning (now (problem .entry))) (unknowns (now (decider .entry))) (now (memory .entry)) (now (left .entry)) (now (because .entry) .words) (now (memory .exit)) (now (left .exit)) (now (because .exit) .words) a b r ⌝ }
+    ensures compares { λ r. ⌜ Compares (text-of (now (problem .entry))) (unknowns (now (decider .entry))) (now (memory .entry)) (now (left .entry)) (now (because .entry) .words) (now (memory .exit)) (now (left .exit)) (now (because .exit) .words) a b r ⌝ }
 {
     if left.steps == 0 {
         return Verdict::Out;
@@ -291,8 +294,8 @@ pub fn compare<P: Problem, D: Decides>(
 }
 
 // The heads of both, and then their arguments, once the step is taken.
-fn compared<P: Problem, D: Decides>(
-    problem: &P,
+fn compared<D: Decides>(
+    problem: &Problem,
     decider: &D,
     memory: &mut [Place],
     left: &mut Left,
@@ -302,7 +305,7 @@ fn compared<P: Problem, D: Decides>(
 ) -> Verdict
     requires { ⌜ now left .top + 6 * now left .steps ≤ length (now memory) ⌝ }
     ensures kept { λ r. ⌜ Kept 0 (now (memory .entry)) (now (memory .exit)) (now (left .entry)) (now (left .exit)) ⌝ }
-    ensures compared { λ r. ⌜ Compared (meaning (now (problem .entry))) (unknowns (now (decider .entry))) (now (memory .entry)) (now (left .entry)) (now (because .entry) .words) (now (memory .exit)) (now (left .exit)) (now (because .exit) .words) a b r ⌝ }
+    ensures compared { λ r. ⌜ Compared (text-of (now (problem .entry))) (unknowns (now (decider .entry))) (now (memory .entry)) (now (left .entry)) (now (because .entry) .words) (now (memory .exit)) (now (left .exit)) (now (because .exit) .words) a b r ⌝ }
 {
     match head(problem, decider, memory, left, because, a) {
         Head::Is {
@@ -333,8 +336,8 @@ fn compared<P: Problem, D: Decides>(
 }
 
 // Two rows of arguments in order, past pairs that wait, up to the first that differ.
-fn arguments<P: Problem, D: Decides>(
-    problem: &P,
+fn arguments<D: Decides>(
+    problem: &Problem,
     decider: &D,
     memory: &mut [Place],
     left: &mut Left,
@@ -345,7 +348,7 @@ fn arguments<P: Problem, D: Decides>(
 ) -> Verdict
     requires { ⌜ now left .top + 6 * now left .steps ≤ length (now memory) ⌝ }
     ensures kept { λ r. ⌜ Kept 0 (now (memory .entry)) (now (memory .exit)) (now (left .entry)) (now (left .exit)) ⌝ }
-    ensures pairs { λ r. ⌜ Pairs (meaning (now (problem .entry))) (unknowns (now (decider .entry))) (now (memory .entry)) (now (left .entry)) (now (because .entry) .words) (now (memory .exit)) (now (left .exit)) (now (because .exit) .words) xs ys count r ⌝ }
+    ensures pairs { λ r. ⌜ Pairs (text-of (now (problem .entry))) (unknowns (now (decider .entry))) (now (memory .entry)) (now (left .entry)) (now (because .entry) .words) (now (memory .exit)) (now (left .exit)) (now (because .exit) .words) xs ys count r ⌝ }
 {
     if count == 0 || xs >= memory.len() || ys >= memory.len() {
         return Verdict::Same;

@@ -4,16 +4,17 @@ ghost use Prim.Native.Nat.{ℕ, _*_, _<_, _≤_};
 ghost use lib.ListN.{length};
 ghost use Rattle.judging.specs.Held.{goal as goal-of};
 ghost use Rattle.judging.specs.Judging.{judge};
+ghost use Rattle.judge.specs.Texts.{text-of};
 ghost use Rattle.judge.specs.Outcomes.{outcome, byte-of, Explained};
 use crate::answers::Head;
 use crate::answers::Left;
 use crate::cycle::head;
 use crate::decides::Decides;
-use crate::text::Problem;
 use crate::verdicts::Judgement;
 use held::explanation::Explanation;
 use held::places::Held;
 use held::places::Place;
+use problem::problem::Problem;
 
 impl Judgement {
     // The byte that stands for a judgement in an answer.
@@ -30,11 +31,11 @@ impl Judgement {
 }
 
 // Judges a goal with so many steps. The explanation of a true or a false one is put into `because`.
-pub fn judge_goal<P: Problem, D: Decides>(problem: &P, decider: &D, memory: &mut [Place], because: &mut Explanation, steps: usize, goal: usize) -> Judgement
+pub fn judge_goal<D: Decides>(problem: &Problem, decider: &D, memory: &mut [Place], because: &mut Explanation, steps: usize, goal: usize) -> Judgement
     requires room { ⌜ 6 * steps ≤ length (now memory) ⌝ }
-    requires known { ⌜ goal < length (meaning (now problem) .problem .goals) ⌝ }
-    ensures judged { λ r. ⌜ r ≡ outcome (judge (meaning (now (problem .entry)) .problem) (unknowns (now (decider .entry))) (goal-of (meaning (now (problem .entry)) .problem) goal) steps) ⌝ }
-    ensures explained { λ r. ⌜ Explained (now (because .entry) .words) (now (because .exit) .words) (judge (meaning (now (problem .entry)) .problem) (unknowns (now (decider .entry))) (goal-of (meaning (now (problem .entry)) .problem) goal) steps) ⌝ }
+    requires known { ⌜ goal < length (text-of (now problem) .problem .goals) ⌝ }
+    ensures judged { λ r. ⌜ r ≡ outcome (judge (text-of (now (problem .entry)) .problem) (unknowns (now (decider .entry))) (goal-of (text-of (now (problem .entry)) .problem) goal) steps) ⌝ }
+    ensures explained { λ r. ⌜ Explained (now (because .entry) .words) (now (because .exit) .words) (judge (text-of (now (problem .entry)) .problem) (unknowns (now (decider .entry))) (goal-of (text-of (now (problem .entry)) .problem) goal) steps) ⌝ }
 {
     let mut left = Left { steps, top: 0 };
     let place = problem.goal(goal);

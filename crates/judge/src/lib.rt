@@ -6,4 +6,3 @@ pub mod goals;
 pub mod decides;
 pub mod outcomes;
 pub mod terms;
-pub mod text;

@@ -10,23 +10,23 @@ ghost use Rattle.syntax.specs.Problems.{sig-of};
 ghost use Rattle.judging.specs.Held.{Helds, hold as held, branch, holds, _h++_};
 ghost use Rattle.judging.specs.Judging.{of-unknown};
 ghost use Rattle.held.specs.declared.places.Place.{Place as Spot};
-ghost use Rattle.held.specs.Reading.{Text, Reads, ReadsAll};
+ghost use Rattle.held.specs.Reading.{Text, Reads};
 ghost use Rattle.held.specs.Standing.{Stands, Env, Row, Same};
-ghost use Rattle.judge.specs.Views.{tlength};
+ghost use Rattle.judge.specs.Texts.{text-of, ReadsAll, tlength};
 ghost use Rattle.judge.specs.Means.{Agrees, Few, Kept};
 use crate::answers::Head;
 use crate::answers::Left;
 use crate::decides::Decides;
-use crate::text::Problem;
 use held::explanation::Explanation;
 use held::memory::hold_unknowns;
 use held::memory::push;
 use held::places::Held;
 use held::places::Place;
+use problem::problem::Problem;
 
 // The place of the term after so many others.
-fn skip<P: Problem>(problem: &P, place: usize, count: u8) -> usize
-    ensures { λ r. ⌜ ((ts : Terms) → count < tlength ts → ReadsAll (meaning (now (problem .entry))) place ts → Reads (meaning (now (problem .entry))) r (branch ts count)) ⌝ }
+fn skip(problem: &Problem, place: usize, count: u8) -> usize
+    ensures { λ r. ⌜ ((ts : Terms) → count < tlength ts → ReadsAll (text-of (now (problem .entry))) place ts → Reads (text-of (now (problem .entry))) r (branch ts count)) ⌝ }
 {
     if count == 0 {
         place
@@ -36,14 +36,14 @@ fn skip<P: Problem>(problem: &P, place: usize, count: u8) -> usize
 }
 
 // The branch for a constructor, of a case on the type `ty` whose subject is at a place.
-pub fn hold_branch<P: Problem>(
-    problem: &P,
+pub fn hold_branch(
+    problem: &Problem,
     ty: u8,
     subject: usize,
     constructor: u8,
     env: usize,
 ) -> Held
-    ensures { λ r. ⌜ ((m : List Spot) (top : ℕ) (u : Term) (us : Terms) (ρ : Helds ℕ) → count-of (sig-of (meaning (now (problem .entry)) .problem)) ty ≡ tlength us → ReadsAll (meaning (now (problem .entry))) subject (u t∷ us) → Env (Reads (meaning (now (problem .entry)))) m top env ρ → Stands (Reads (meaning (now (problem .entry)))) m top r (held (branch us constructor) ρ)) ⌝ }
+    ensures { λ r. ⌜ ((m : List Spot) (top : ℕ) (u : Term) (us : Terms) (ρ : Helds ℕ) → count-of (sig-of (text-of (now (problem .entry)) .problem)) ty ≡ tlength us → ReadsAll (text-of (now (problem .entry))) subject (u t∷ us) → Env (Reads (text-of (now (problem .entry)))) m top env ρ → Stands (Reads (text-of (now (problem .entry)))) m top r (held (branch us constructor) ρ)) ⌝ }
 {
     if constructor < problem.constructors(ty) {
         let place = skip(problem, problem.after(subject), constructor);
@@ -54,8 +54,8 @@ pub fn hold_branch<P: Problem>(
 }
 
 // Holds the terms from a place on, in an environment: as a row, and as the newest bindings of `onto`, whose link it gives.
-pub fn hold_terms<P: Problem>(
-    problem: &P,
+pub fn hold_terms(
+    problem: &Problem,
     memory: &mut [Place],
     top: usize,
     place: usize,
@@ -65,8 +65,8 @@ pub fn hold_terms<P: Problem>(
 ) -> usize
     requires { ⌜ top + count ≤ length (now memory) ⌝ }
     ensures same { λ _. ⌜ Same (now (memory .entry)) (now (memory .exit)) top ⌝ }
-    ensures row { λ _. ⌜ ((ts : Terms) (ρ : Helds ℕ) → count ≡ tlength ts → ReadsAll (meaning (now (problem .entry))) place ts → Env (Reads (meaning (now (problem .entry)))) (now (memory .entry)) top env ρ → Row (Reads (meaning (now (problem .entry)))) (now (memory .exit)) (top + count) top (holds ts ρ)) ⌝ }
-    ensures bound { λ r. ⌜ ((ts : Terms) (ρ σ : Helds ℕ) → count ≡ tlength ts → ReadsAll (meaning (now (problem .entry))) place ts → Env (Reads (meaning (now (problem .entry)))) (now (memory .entry)) top env ρ → Env (Reads (meaning (now (problem .entry)))) (now (memory .entry)) top onto σ → Env (Reads (meaning (now (problem .entry)))) (now (memory .exit)) (top + count) r (σ h++ holds ts ρ)) ⌝ }
+    ensures row { λ _. ⌜ ((ts : Terms) (ρ : Helds ℕ) → count ≡ tlength ts → ReadsAll (text-of (now (problem .entry))) place ts → Env (Reads (text-of (now (problem .entry)))) (now (memory .entry)) top env ρ → Row (Reads (text-of (now (problem .entry)))) (now (memory .exit)) (top + count) top (holds ts ρ)) ⌝ }
+    ensures bound { λ r. ⌜ ((ts : Terms) (ρ σ : Helds ℕ) → count ≡ tlength ts → ReadsAll (text-of (now (problem .entry))) place ts → Env (Reads (text-of (now (problem .entry)))) (now (memory .entry)) top env ρ → Env (Reads (text-of (now (problem .entry)))) (now (memory .entry)) top onto σ → Env (Reads (text-of (now (problem .entry)))) (now (memory .exit)) (top + count) r (σ h++ holds ts ρ)) ⌝ }
 {
     if count == 0 {
         return onto;

@@ -4,6 +4,7 @@ ghost use lib.ListN.{length};
 ghost use denote.Ref.{now as held};
 
 // Model bytes with the places of the values in them, of which there are `count`.
+#[derive(Drop)]
 pub struct Model<'a, P> {
     pub problem: &'a P,
     pub bytes: &'a [u8],

@@ -5,10 +5,12 @@ use Prim.Native.Nat.{ℕ, _+_, _-_, _*_, _<_, _≤_}
 use native.Mathlib.Omega.{arith}
 use Rattle.std.proofs.shelf.Tests.{eq-eqb, ne-eqb}
 use Rattle.syntax.specs.Terms.{Term}
-use Rattle.judging.specs.Held.{Held, hold, free, Helds, h[], branch, body-of, bound, holds, _h++_}
+use Rattle.judging.specs.Held.{Held, hold, free, Helds, h[], branch, no-function, body-of, bound, holds, _h++_}
 use Rattle.judging.specs.Judging.{Unknowns, Head, Asks, Judging, go-on, give, of-unknown, after-pair, pairs, by-constructors, after-right, after-left, after-subject, and-right, headed, judges}
 use Rattle.held.specs.Reading.{Text, Reads}
-use Rattle.judge.specs.Views.{tlength}
+use Rattle.judge.specs.Texts.{text-of, tlength}
+use Rattle.judge.proofs.Texts.{reads, shown}
+use Rattle.problem.specs.declared.view.View.the-variants as view
 use Rattle.held.proofs.Standing.{stands-grows, binds-grows, row-grows}
 use Rattle.judge.proofs.Sets.{adds-none, adds-append, adds-only, explains}
 use Rattle.judge.proofs.Agreeing.{opens, shut, opens-comparing, shut-comparing, stands-missing, stands-unknown, stands-term, by, by-verdict, agrees-join, concurs-join, holds-length, and-left-false, and-left-true, pairs-none, pairs-more}
@@ -17,7 +19,7 @@ use Rattle.judge.proofs.cycle.+arguments+compare+compared+head+head_of_and+hea
 
 pub arguments-returns-then-count-eq0 : need.arguments-returns-then-count-eq0
 arguments-returns-then-count-eq0 g t c =
-    let x : Text = g .P·Problem .meaning (c .args .problem .now) in
+    let x : Text = text-of (c .args .problem .now) in
     let K : Unknowns ℕ = g .D·Decides .unknowns (c .args .decider .now) in
     let m = c .args .memory .now in
     let l = c .args .left .now in
@@ -33,7 +35,7 @@ arguments-returns-then-count-eq0 g t c =
 
 pub arguments-returns-in-Same : need.arguments-returns-in-Same
 arguments-returns-in-Same g t c =
-    let x : Text = g .P·Problem .meaning (c .args .problem .now) in
+    let x : Text = text-of (c .args .problem .now) in
     let K : Unknowns ℕ = g .D·Decides .unknowns (c .args .decider .now) in
     let m = c .args .memory .now in
     let l = c .args .left .now in
@@ -54,7 +56,7 @@ arguments-returns-in-Same g t c =
 
 pub arguments-returns-in-Differ : need.arguments-returns-in-Differ
 arguments-returns-in-Differ g t c =
-    let x : Text = g .P·Problem .meaning (c .args .problem .now) in
+    let x : Text = text-of (c .args .problem .now) in
     let K : Unknowns ℕ = g .D·Decides .unknowns (c .args .decider .now) in
     let m = c .args .memory .now in
     let l = c .args .left .now in
@@ -71,7 +73,7 @@ arguments-returns-in-Differ g t c =
 
 pub arguments-returns-in-Wait : need.arguments-returns-in-Wait
 arguments-returns-in-Wait g t c =
-    let x : Text = g .P·Problem .meaning (c .args .problem .now) in
+    let x : Text = text-of (c .args .problem .now) in
     let K : Unknowns ℕ = g .D·Decides .unknowns (c .args .decider .now) in
     let m = c .args .memory .now in
     let l = c .args .left .now in
@@ -92,7 +94,7 @@ arguments-returns-in-Wait g t c =
 
 pub arguments-returns-in-Out : need.arguments-returns-in-Out
 arguments-returns-in-Out g t c =
-    let x : Text = g .P·Problem .meaning (c .args .problem .now) in
+    let x : Text = text-of (c .args .problem .now) in
     let K : Unknowns ℕ = g .D·Decides .unknowns (c .args .decider .now) in
     let m = c .args .memory .now in
     let l = c .args .left .now in
@@ -109,7 +111,7 @@ arguments-returns-in-Out g t c =
 
 pub compare-returns-then-left-eq0 : need.compare-returns-then-left-eq0
 compare-returns-then-left-eq0 g t c =
-    let x : Text = g .P·Problem .meaning (c .args .problem .now) in
+    let x : Text = text-of (c .args .problem .now) in
     let K : Unknowns ℕ = g .D·Decides .unknowns (c .args .decider .now) in
     let m = c .args .memory .now in
     let l = c .args .left .now in
@@ -121,7 +123,7 @@ compare-returns-then-left-eq0 g t c =
 
 pub compare-returns : need.compare-returns
 compare-returns g t c =
-    let x : Text = g .P·Problem .meaning (c .args .problem .now) in
+    let x : Text = text-of (c .args .problem .now) in
     let K : Unknowns ℕ = g .D·Decides .unknowns (c .args .decider .now) in
     let m = c .args .memory .now in
     let l = c .args .left .now in
@@ -133,7 +135,7 @@ compare-returns g t c =
 
 pub compared-returns-then-c-d : need.compared-returns-then-c-d
 compared-returns-then-c-d g t c =
-    let x : Text = g .P·Problem .meaning (c .args .problem .now) in
+    let x : Text = text-of (c .args .problem .now) in
     let K : Unknowns ℕ = g .D·Decides .unknowns (c .args .decider .now) in
     let m = c .args .memory .now in
     let l = c .args .left .now in
@@ -154,7 +156,7 @@ compared-returns-then-c-d g t c =
 
 pub compared-returns-else-c-d : need.compared-returns-else-c-d
 compared-returns-else-c-d g t c =
-    let x : Text = g .P·Problem .meaning (c .args .problem .now) in
+    let x : Text = text-of (c .args .problem .now) in
     let K : Unknowns ℕ = g .D·Decides .unknowns (c .args .decider .now) in
     let m = c .args .memory .now in
     let l = c .args .left .now in
@@ -172,7 +174,7 @@ compared-returns-else-c-d g t c =
 
 pub compared-returns-in-Waits-head : need.compared-returns-in-Waits-head
 compared-returns-in-Waits-head g t c =
-    let x : Text = g .P·Problem .meaning (c .args .problem .now) in
+    let x : Text = text-of (c .args .problem .now) in
     let K : Unknowns ℕ = g .D·Decides .unknowns (c .args .decider .now) in
     let m = c .args .memory .now in
     let l = c .args .left .now in
@@ -187,7 +189,7 @@ compared-returns-in-Waits-head g t c =
 
 pub compared-returns-in-Out-head : need.compared-returns-in-Out-head
 compared-returns-in-Out-head g t c =
-    let x : Text = g .P·Problem .meaning (c .args .problem .now) in
+    let x : Text = text-of (c .args .problem .now) in
     let K : Unknowns ℕ = g .D·Decides .unknowns (c .args .decider .now) in
     let m = c .args .memory .now in
     let l = c .args .left .now in
@@ -202,7 +204,7 @@ compared-returns-in-Out-head g t c =
 
 pub compared-returns-in-Waits : need.compared-returns-in-Waits
 compared-returns-in-Waits g t c =
-    let x : Text = g .P·Problem .meaning (c .args .problem .now) in
+    let x : Text = text-of (c .args .problem .now) in
     let K : Unknowns ℕ = g .D·Decides .unknowns (c .args .decider .now) in
     let m = c .args .memory .now in
     let l = c .args .left .now in
@@ -217,7 +219,7 @@ compared-returns-in-Waits g t c =
 
 pub head-returns-then-left-eq0 : need.head-returns-then-left-eq0
 head-returns-then-left-eq0 g t c =
-    let x : Text = g .P·Problem .meaning (c .args .problem .now) in
+    let x : Text = text-of (c .args .problem .now) in
     let K : Unknowns ℕ = g .D·Decides .unknowns (c .args .decider .now) in
     let m = c .args .memory .now in
     let l = c .args .left .now in
@@ -230,7 +232,7 @@ head-returns-then-left-eq0 g t c =
 
 pub head-returns-in-Missing : need.head-returns-in-Missing
 head-returns-in-Missing g t c =
-    let x : Text = g .P·Problem .meaning (c .args .problem .now) in
+    let x : Text = text-of (c .args .problem .now) in
     let K : Unknowns ℕ = g .D·Decides .unknowns (c .args .decider .now) in
     let m = c .args .memory .now in
     let l = c .args .left .now in
@@ -244,7 +246,7 @@ head-returns-in-Missing g t c =
 
 pub head-returns-in-Unknown : need.head-returns-in-Unknown
 head-returns-in-Unknown g t c =
-    let x : Text = g .P·Problem .meaning (c .args .problem .now) in
+    let x : Text = text-of (c .args .problem .now) in
     let K : Unknowns ℕ = g .D·Decides .unknowns (c .args .decider .now) in
     let m = c .args .memory .now in
     let l = c .args .left .now in
@@ -258,7 +260,7 @@ head-returns-in-Unknown g t c =
 
 pub head-returns-in-Term : need.head-returns-in-Term
 head-returns-in-Term g t c =
-    let x : Text = g .P·Problem .meaning (c .args .problem .now) in
+    let x : Text = text-of (c .args .problem .now) in
     let K : Unknowns ℕ = g .D·Decides .unknowns (c .args .decider .now) in
     let m = c .args .memory .now in
     let l = c .args .left .now in
@@ -272,7 +274,7 @@ head-returns-in-Term g t c =
 
 pub head-of-and-returns-then-constructor-eq0 : need.head-of-and-returns-then-constructor-eq0
 head-of-and-returns-then-constructor-eq0 g t c =
-    let x : Text = g .P·Problem .meaning (c .args .problem .now) in
+    let x : Text = text-of (c .args .problem .now) in
     let K : Unknowns ℕ = g .D·Decides .unknowns (c .args .decider .now) in
     let m = c .args .memory .now in
     let l = c .args .left .now in
@@ -296,7 +298,7 @@ head-of-and-returns-then-constructor-eq0 g t c =
 
 pub head-of-and-returns-else-constructor-eq0 : need.head-of-and-returns-else-constructor-eq0
 head-of-and-returns-else-constructor-eq0 g t c =
-    let x : Text = g .P·Problem .meaning (c .args .problem .now) in
+    let x : Text = text-of (c .args .problem .now) in
     let K : Unknowns ℕ = g .D·Decides .unknowns (c .args .decider .now) in
     let m = c .args .memory .now in
     let l = c .args .left .now in
@@ -313,7 +315,7 @@ head-of-and-returns-else-constructor-eq0 g t c =
 
 pub head-of-and-returns-in-Waits : need.head-of-and-returns-in-Waits
 head-of-and-returns-in-Waits g t c =
-    let x : Text = g .P·Problem .meaning (c .args .problem .now) in
+    let x : Text = text-of (c .args .problem .now) in
     let K : Unknowns ℕ = g .D·Decides .unknowns (c .args .decider .now) in
     let m = c .args .memory .now in
     let l = c .args .left .now in
@@ -330,7 +332,7 @@ head-of-and-returns-in-Waits g t c =
 
 pub head-of-case-returns-in-Is : need.head-of-case-returns-in-Is
 head-of-case-returns-in-Is g t c =
-    let x : Text = g .P·Problem .meaning (c .args .problem .now) in
+    let x : Text = text-of (c .args .problem .now) in
     let K : Unknowns ℕ = g .D·Decides .unknowns (c .args .decider .now) in
     let m = c .args .memory .now in
     let l = c .args .left .now in
@@ -349,7 +351,7 @@ head-of-case-returns-in-Is g t c =
 
 pub head-of-term-returns-in-Variable : need.head-of-term-returns-in-Variable
 head-of-term-returns-in-Variable g t c =
-    let x : Text = g .P·Problem .meaning (c .args .problem .now) in
+    let x : Text = text-of (c .args .problem .now) in
     let K : Unknowns ℕ = g .D·Decides .unknowns (c .args .decider .now) in
     let m = c .args .memory .now in
     let l = c .args .left .now in
@@ -357,14 +359,14 @@ head-of-term-returns-in-Variable g t c =
       kept = kept-spare (c .head .ensures .kept);
       few = c .head .ensures .few;
       heads = λ d t ρ le rt b.
-          let s = c .in-Variable .ensures tt t rt in
+          let s = shown (c .args .problem .now) (c .args .place) (view.Variable (c .in-Variable .variable)) (c .in-Variable .ensures tt .shows) t rt in
           let at = λ (u : Term). headed (x .problem) K (judges (x .problem) K d) (hold u ρ) (l .steps) in
           by (ap at (sym s)) (c .head .ensures .heads d (bound ρ (c .in-Variable .variable)) le (c .lookup-held .ensures x (l .top) ρ b));
     }
 
 pub head-of-term-returns-in-Unknown : need.head-of-term-returns-in-Unknown
 head-of-term-returns-in-Unknown g t c =
-    let x : Text = g .P·Problem .meaning (c .args .problem .now) in
+    let x : Text = text-of (c .args .problem .now) in
     let K : Unknowns ℕ = g .D·Decides .unknowns (c .args .decider .now) in
     let m = c .args .memory .now in
     let l = c .args .left .now in
@@ -372,14 +374,14 @@ head-of-term-returns-in-Unknown g t c =
       kept = c .decided .ensures .kept;
       few = c .decided .ensures .few;
       heads = λ d t ρ le rt b.
-          let s = c .in-Unknown .ensures tt t rt in
+          let s = shown (c .args .problem .now) (c .args .place) (view.Unknown (c .in-Unknown .number)) (c .in-Unknown .ensures tt .shows) t rt in
           let at = λ (u : Term). headed (x .problem) K (judges (x .problem) K d) (hold u ρ) (l .steps) in
           by (ap (λ (u : ℕ). give (of-unknown K u (K .chosen u)) (l .steps)) (c .root-unknown .ensures) ∙ ap at (sym s)) (c .decided .ensures .agrees x);
     }
 
 pub head-of-term-returns-in-Constructor : need.head-of-term-returns-in-Constructor
 head-of-term-returns-in-Constructor g t c =
-    let x : Text = g .P·Problem .meaning (c .args .problem .now) in
+    let x : Text = text-of (c .args .problem .now) in
     let K : Unknowns ℕ = g .D·Decides .unknowns (c .args .decider .now) in
     let m = c .args .memory .now in
     let l = c .args .left .now in
@@ -387,7 +389,7 @@ head-of-term-returns-in-Constructor g t c =
       kept = kept-held (omega (arith, c .min-count .ensures)) (c .hold-terms .ensures .same);
       few = omega (arith, c .min-count .ensures);
       heads = λ d t ρ le rt b.
-          let s = c .in-Constructor .ensures tt t rt in
+          let s = shown (c .args .problem .now) (c .args .place) (view.Constructor (c .in-Constructor .ty) (c .in-Constructor .constructor) (c .in-Constructor .arity) (c .in-Constructor .arguments)) (c .in-Constructor .ensures tt .shows) t rt in
           let at = λ (u : Term). headed (x .problem) K (judges (x .problem) K d) (hold u ρ) (l .steps) in
           let long : c .min-count .result ≡ tlength (s .0) = (omega (arith, c .min-count .ensures, s .2, s .3)) in
           record {
@@ -397,7 +399,7 @@ head-of-term-returns-in-Constructor g t c =
 
 pub head-of-term-returns-in-Call : need.head-of-term-returns-in-Call
 head-of-term-returns-in-Call g t c =
-    let x : Text = g .P·Problem .meaning (c .args .problem .now) in
+    let x : Text = text-of (c .args .problem .now) in
     let K : Unknowns ℕ = g .D·Decides .unknowns (c .args .decider .now) in
     let m = c .args .memory .now in
     let l = c .args .left .now in
@@ -405,17 +407,17 @@ head-of-term-returns-in-Call g t c =
       kept = kept-then (omega (arith, c .min-count-in-Call .ensures)) (c .hold-terms-env .ensures .same) (c .head-in-Call .ensures .kept);
       few = c .head-in-Call .ensures .few;
       heads = λ d t ρ le rt b.
-          let s = c .in-Call .ensures tt t rt in
+          let s = shown (c .args .problem .now) (c .args .place) (view.Call (c .in-Call .function) (c .in-Call .arity) (c .in-Call .arguments)) (c .in-Call .ensures tt .shows) t rt in
           let at = λ (u : Term). headed (x .problem) K (judges (x .problem) K d) (hold u ρ) (l .steps) in
           let long : c .min-count-in-Call .result ≡ tlength (s .0) = (omega (arith, c .min-count-in-Call .ensures, s .2, s .3)) in
           by (ap at (sym (s .1)))
           (c .head-in-Call .ensures .heads d (hold (body-of (x .problem) (c .in-Call .function)) (holds (s .0) ρ)) le
-          (c .body-place .ensures (s .4), c .hold-terms-env .ensures .bound (s .0) ρ h[] long (s .5) b refl));
+          (reads (c .body-place .ensures .stands no-function (s .4)), c .hold-terms-env .ensures .bound (s .0) ρ h[] long (s .5) b refl));
     }
 
 pub head-of-term-returns-in-Case : need.head-of-term-returns-in-Case
 head-of-term-returns-in-Case g t c =
-    let x : Text = g .P·Problem .meaning (c .args .problem .now) in
+    let x : Text = text-of (c .args .problem .now) in
     let K : Unknowns ℕ = g .D·Decides .unknowns (c .args .decider .now) in
     let m = c .args .memory .now in
     let l = c .args .left .now in
@@ -423,14 +425,14 @@ head-of-term-returns-in-Case g t c =
       kept = c .head-of-case .ensures .kept;
       few = c .head-of-case .ensures .few;
       heads = λ d t ρ le rt b.
-          let s = c .in-Case .ensures tt t rt in
+          let s = shown (c .args .problem .now) (c .args .place) (view.Case (c .in-Case .ty) (c .in-Case .subject)) (c .in-Case .ensures tt .shows) t rt in
           let at = λ (u : Term). headed (x .problem) K (judges (x .problem) K d) (hold u ρ) (l .steps) in
           by (ap at (sym (s .2))) (c .head-of-case .ensures .heads d (s .0) (s .1) ρ le (s .3) (s .4) (s .5) b);
     }
 
 pub head-of-term-returns-in-And : need.head-of-term-returns-in-And
 head-of-term-returns-in-And g t c =
-    let x : Text = g .P·Problem .meaning (c .args .problem .now) in
+    let x : Text = text-of (c .args .problem .now) in
     let K : Unknowns ℕ = g .D·Decides .unknowns (c .args .decider .now) in
     let m = c .args .memory .now in
     let l = c .args .left .now in
@@ -438,14 +440,14 @@ head-of-term-returns-in-And g t c =
       kept = kept-spare (c .head-of-and .ensures .kept);
       few = c .head-of-and .ensures .few;
       heads = λ d t ρ le rt b.
-          let s = c .in-And .ensures tt t rt in
+          let s = shown (c .args .problem .now) (c .args .place) (view.And (c .in-And .a) (c .in-And .b)) (c .in-And .ensures tt .shows) t rt in
           let at = λ (u : Term). headed (x .problem) K (judges (x .problem) K d) (hold u ρ) (l .steps) in
           by (ap at (sym (s .2))) (c .head-of-and .ensures .heads d (s .0) (s .1) ρ le (s .3) (s .4) b);
     }
 
 pub head-of-term-returns-in-Not : need.head-of-term-returns-in-Not
 head-of-term-returns-in-Not g t c =
-    let x : Text = g .P·Problem .meaning (c .args .problem .now) in
+    let x : Text = text-of (c .args .problem .now) in
     let K : Unknowns ℕ = g .D·Decides .unknowns (c .args .decider .now) in
     let m = c .args .memory .now in
     let l = c .args .left .now in
@@ -453,7 +455,7 @@ head-of-term-returns-in-Not g t c =
       kept = kept-spare (c .head-a .ensures .kept);
       few = c .negate .ensures .few;
       heads = λ d t ρ le rt b.
-          let s = c .in-Not .ensures tt t rt in
+          let s = shown (c .args .problem .now) (c .args .place) (view.Not (c .in-Not .place)) (c .in-Not .ensures tt .shows) t rt in
           let at = λ (u : Term). headed (x .problem) K (judges (x .problem) K d) (hold u ρ) (l .steps) in
           by (ap at (sym (s .1)))
           (c .negate .ensures .agrees x (c .head-a .last .memory) (c .head-a .last .left) _ _ _ (c .head-a .ensures .heads d (hold (s .0) ρ) le (s .2, b)));
@@ -461,7 +463,7 @@ head-of-term-returns-in-Not g t c =
 
 pub head-of-term-returns-in-Equal : need.head-of-term-returns-in-Equal
 head-of-term-returns-in-Equal g t c =
-    let x : Text = g .P·Problem .meaning (c .args .problem .now) in
+    let x : Text = text-of (c .args .problem .now) in
     let K : Unknowns ℕ = g .D·Decides .unknowns (c .args .decider .now) in
     let m = c .args .memory .now in
     let l = c .args .left .now in
@@ -469,9 +471,16 @@ head-of-term-returns-in-Equal g t c =
       kept = kept-spare (c .compared-v .ensures .kept);
       few = c .truth .ensures .few;
       heads = λ d t ρ le rt b.
-          let s = c .in-Equal .ensures tt t rt in
+          let s = shown (c .args .problem .now) (c .args .place) (view.Equal (c .in-Equal .a) (c .in-Equal .b)) (c .in-Equal .ensures tt .shows) t rt in
           let at = λ (u : Term). headed (x .problem) K (judges (x .problem) K d) (hold u ρ) (l .steps) in
           by (ap at (sym (s .3)))
           (c .truth .ensures .agrees x (c .compared-v .last .memory) (c .compared-v .last .left) _ _ _
           (c .compared-v .ensures .compared d (hold (s .1) ρ) (hold (s .2) ρ) le (s .4, b) (s .5, b)));
+    }
+
+pub head-of-term-returns-in-Nothing : need.head-of-term-returns-in-Nothing
+head-of-term-returns-in-Nothing g t c = record {
+      kept = kept-spare kept-refl;
+      few = tt;
+      heads = λ d t ρ le rt b. absurd (shown (c .args .problem .now) (c .args .place) view.Nothing (c .in-Nothing .ensures tt .shows) t rt);
     }

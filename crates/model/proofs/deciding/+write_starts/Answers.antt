@@ -10,7 +10,7 @@ use Rattle.model.proofs.deciding.+write_starts.Needs as need
 
 pub returns-then-next-types : need.returns-then-next-types
 returns-then-next-types g t c =
-    let sig : Sig = sig-of (g .P·Problem .meaning (c .args .problem .now) .problem) in
+    let sig : Sig = sig-of (g .P·Declares .declares (c .args .problem .now)) in
     record {
       same = λ i h. refl;
       starts = λ le. starts-none sig (c .args .bytes .now) (c .args .types .now) (c .args .children .now) (c .args .next) (c .args .place) (omega arith);
@@ -18,7 +18,7 @@ returns-then-next-types g t c =
 
 pub returns : need.returns
 returns g t c =
-    let sig : Sig = sig-of (g .P·Problem .meaning (c .args .problem .now) .problem) in
+    let sig : Sig = sig-of (g .P·Declares .declares (c .args .problem .now)) in
     record {
       same = λ i h. c .write-starts .ensures .same i (omega arith) ∙ (let ne : i ≢ c .args .next = omega arith in getD-set-other (c .args .children .now) (c .args .next) i _ 0 ne);
       starts = λ le. starts-more sig (c .args .bytes .now) (c .args .types .now) (c .write-starts .last .children) (c .args .next) (c .args .place) (c .next-start-end .result)

@@ -19,7 +19,7 @@ use Rattle.model.proofs.reading.+read_places.Needs as need
 
 pub returns-then-place-bytes : need.returns-then-place-bytes
 returns-then-place-bytes g t c =
-    let sig : Sig = sig-of (g .P·Problem .meaning (c .args .problem .now) .problem) in
+    let sig : Sig = sig-of (g .P·Declares .declares (c .args .problem .now)) in
     record {
       same = λ i h. refl;
       placed = places-after sig (c .args .bytes .now) (c .args .types .now) (c .args .number) (c .args .place) (omega arith) (omega arith)
@@ -28,7 +28,7 @@ returns-then-place-bytes g t c =
 
 pub returns-then-number-types : need.returns-then-number-types
 returns-then-number-types g t c =
-    let sig : Sig = sig-of (g .P·Problem .meaning (c .args .problem .now) .problem) in
+    let sig : Sig = sig-of (g .P·Declares .declares (c .args .problem .now)) in
     record {
       same = λ i h. refl;
       placed = places-all sig (c .args .bytes .now) (c .args .types .now) (c .args .number) (c .args .place) (c .args .roots .now) (omega arith) (omega arith);
@@ -36,7 +36,7 @@ returns-then-number-types g t c =
 
 pub returns-in-Break-value : need.returns-in-Break-value
 returns-in-Break-value g t c =
-    let sig : Sig = sig-of (g .P·Problem .meaning (c .args .problem .now) .problem) in
+    let sig : Sig = sig-of (g .P·Declares .declares (c .args .problem .now)) in
     let p = err-from-errBy (c .from-residual .result) (c .from-residual .ensures .1) in
     let is = sym (p .1 ∙ ap (λ (e : Fault). Err e) (p .2)) in
     record {
@@ -48,7 +48,7 @@ returns-in-Break-value g t c =
 
 pub returns-in-Break-end : need.returns-in-Break-end
 returns-in-Break-end g t c =
-    let sig : Sig = sig-of (g .P·Problem .meaning (c .args .problem .now) .problem) in
+    let sig : Sig = sig-of (g .P·Declares .declares (c .args .problem .now)) in
     let p = err-from-errBy (c .from-residual-in-Break-end .result) (c .from-residual-in-Break-end .ensures .1) in
     let is = sym (p .1 ∙ ap (λ (e : Fault). Err e) (p .2)) in
     let roots = set (c .args .roots .now) (c .args .number) (c .in-Continue-value .value) in
@@ -62,7 +62,7 @@ returns-in-Break-end g t c =
 
 pub returns : need.returns
 returns g t c =
-    let sig : Sig = sig-of (g .P·Problem .meaning (c .args .problem .now) .problem) in
+    let sig : Sig = sig-of (g .P·Declares .declares (c .args .problem .now)) in
     record {
       same = λ i h. c .read-places .ensures .same i (omega arith) ∙ (let ne : i ≢ c .args .number = omega arith in getD-set-other (c .args .roots .now) (c .args .number) i _ 0 ne);
       placed = places-more sig (c .args .bytes .now) (c .args .types .now) (c .args .number) (c .args .place) (c .in-Continue-value .value) (c .in-Continue-end .end) (c .read-places .last .roots) (c .read-places .result)
