@@ -6,6 +6,7 @@ use Prim.Native.Nat.{ℕ, zero, suc, _+_, _<_, _≤_}
 use lib.ListN.{length, getD, take}
 use native.Mathlib.Omega.{arith}
 use Rattle.std.proofs.shelf.Lists.{getD-past}
+use Rattle.std.specs.Of.Vec.{vec-items}
 use Rattle.std.specs.Results.{isOk}
 use Rattle.std.specs.declared.result.Result.{Result}
 use Rattle.std.specs.declared.result.Result.the-variants.{Ok, Err}
@@ -29,7 +30,8 @@ use Rattle.verdict.specs.Examined.{Accepted}
 use Rattle.verdict.proofs.Results.{was-ok, term-was}
 use Rattle.verdict.proofs.Bodies.{with-body, bodies-sound, goals-sound}
 use Rattle.problem.specs.Layout.{read-from, sig-from, functions-from, unknowns-from, goals-from, body-from, goal-from, body-places, goal-places}
-use Rattle.problem.specs.Filled.{Filled}
+use Rattle.problem.specs.Filled.{Filled, Holds, Fronts}
+use Rattle.problem.specs.declared.tables.Tables.{Tables}
 use Rattle.problem.proofs.Entries.{same-profiles}
 use Rattle.problem.proofs.Lawfulness.{same-bytes}
 
@@ -157,3 +159,14 @@ declared-same s bs types functions unknowns goals least h ts fs us =
     ap (λ x. record { types = x; functions = map profile-in (s .functions .now); unknowns = s .unknowns .now }) (ap (map cases-in) ts ∙ h .of-types)
     ∙ ap (λ x. record { types = sig-from bs .types; functions = x; unknowns = s .unknowns .now }) profiles
     ∙ ap (λ x. record { types = sig-from bs .types; functions = sig-from bs .functions; unknowns = x }) (us ∙ h .of-unknowns)
+
+-- copies of the fronts of examined tables
+pub holds-fronts : (bs : List ℕ) (types : List Datatype) (functions : List Callable) (unknowns : List ℕ) (goals : List Span) (least : List ℕ) (n : Counts) (t : Tables)
+    → Accepted bs types functions unknowns goals least n → Fronts types functions unknowns goals least n t → Holds bs t
+holds-fronts bs types functions unknowns goals least n t a f =
+    let h = filled bs types functions unknowns goals least n a in
+    let h₁ = subst (λ x. Filled bs x (take (n .functions) functions) (take (n .unknowns) unknowns) (take (n .goals) goals) (take (n .types) least)) (sym (f .of-types)) h in
+    let h₂ = subst (λ x. Filled bs (vec-items (t .types)) x (take (n .unknowns) unknowns) (take (n .goals) goals) (take (n .types) least)) (sym (f .of-functions)) h₁ in
+    let h₃ = subst (λ x. Filled bs (vec-items (t .types)) (vec-items (t .functions)) x (take (n .goals) goals) (take (n .types) least)) (sym (f .of-unknowns)) h₂ in
+    let h₄ = subst (λ x. Filled bs (vec-items (t .types)) (vec-items (t .functions)) (vec-items (t .unknowns)) x (take (n .types) least)) (sym (f .of-goals)) h₃ in
+    subst (λ x. Filled bs (vec-items (t .types)) (vec-items (t .functions)) (vec-items (t .unknowns)) (vec-items (t .goals)) x) (sym (f .of-least)) h₄

@@ -3,3 +3,4 @@ pub mod Lawfulness
 pub mod Standing
 pub mod Views
 pub mod Filling
+pub mod Taking

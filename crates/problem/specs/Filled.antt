@@ -3,7 +3,7 @@ use mathlib.Core.Path.{_≡_}
 use mathlib.Core.Bool.{true}
 use mathlib.Core.List.{List, [], map}
 use Prim.Native.Nat.{ℕ, _≤_, _<_}
-use lib.ListN.{length, getD}
+use lib.ListN.{length, getD, take}
 use Rattle.std.specs.Of.Vec.{vec-items}
 use Rattle.std.specs.Results.{isOk}
 use Rattle.syntax.specs.declared.tables.Datatype.{Datatype}
@@ -13,6 +13,7 @@ use Rattle.syntax.specs.Tables.{listed, cases-in}
 use Rattle.syntax.specs.Typing.{Sig, cases-of}
 use Rattle.syntax.specs.Least.{need-of}
 use Rattle.syntax.specs.Problems.{encode-problem}
+use Rattle.tables.specs.declared.filling.Counts.{Counts}
 use Rattle.depths.specs.Least.{Leasts}
 use Rattle.verdict.specs.Verdict.{verdict}
 use Rattle.problem.specs.Layout.{read-from, sig-from, body-places, goal-places}
@@ -38,3 +39,19 @@ Holds bs t = Filled bs (vec-items (t .types)) (vec-items (t .functions)) (vec-it
 pub record Needs-held (sig : Sig) (least : List ℕ) (rows : List (List ℕ)) : Type 0 where
   pub long : length rows ≡ length (sig .types)
   pub each : Leasts sig least → (t c : ℕ) → (t < length rows) × (c < 16) → getD (getD rows t []) c 0 ≡ need-of sig t c
+
+-- the tables are the fronts of these
+pub record Fronts (types : List Datatype) (functions : List Callable) (unknowns : List ℕ) (goals : List Span) (least : List ℕ) (n : Counts) (t : Tables) : Type 0 where
+  pub of-types : vec-items (t .types) ≡ take (n .types) types
+  pub of-functions : vec-items (t .functions) ≡ take (n .functions) functions
+  pub of-unknowns : vec-items (t .unknowns) ≡ take (n .unknowns) unknowns
+  pub of-goals : vec-items (t .goals) ≡ take (n .goals) goals
+  pub of-least : vec-items (t .least) ≡ take (n .types) least
+
+-- the fronts lie within the tables
+pub record Counted (types : List Datatype) (functions : List Callable) (unknowns : List ℕ) (goals : List Span) (least : List ℕ) (n : Counts) : Type 0 where
+  pub of-types : n .types ≤ length types
+  pub of-functions : n .functions ≤ length functions
+  pub of-unknowns : n .unknowns ≤ length unknowns
+  pub of-goals : n .goals ≤ length goals
+  pub of-least : n .types ≤ length least

@@ -1,5 +1,7 @@
 // The check of bytes.
 ghost use mathlib.Core.Path.{_≡_};
+ghost use Prim.Native.Nat.{_+_, _≤_};
+ghost use lib.ListN.{length};
 ghost use Rattle.verdict.specs.Exact.{Says, Verdict-is-exact};
 ghost use Rattle.verdict.specs.Verdict.{verdict, checked};
 use crate::examine::examine;
@@ -32,19 +34,17 @@ const NO_FUNCTION: Callable = Callable {
 
 const NO_TASK: Task = Task::Two { ty: 0, cut: 0 };
 
-// Accepts bytes, or names the first fault. Bytes are accepted exactly if they are the encoding of a lawful problem.
-// The tables have room for all that the format allows, so nothing is allocated.
-pub fn check(bytes: &[u8]) -> Result<(), Fault>
+// The check, with working memory for its tasks. The tables have room for all that the format allows.
+fn check_with(bytes: &[u8], tasks: &mut [Task]) -> Result<(), Fault>
+    requires { ⌜ (length (now bytes) ≤ 16384 → length (now bytes) + 1 ≤ length (now tasks)) ⌝ }
     ensures exact { λ r. ⌜ r ≡ checked (verdict (now (bytes .entry))) ⌝ }
     ensures says { λ r. ⌜ Says (now (bytes .entry)) r ⌝ }
-    ensures decodes { λ _. ⌜ Verdict-is-exact ⌝ }
 {
     let mut types = [NO_TYPE; 32];
     let mut functions = [NO_FUNCTION; 64];
     let mut unknowns = [0; 16];
     let mut goals = [NOWHERE; 32];
     let mut least = [0; 32];
-    let mut tasks = [NO_TASK; 16385];
     examine(
         bytes,
         &mut types,
@@ -52,7 +52,26 @@ pub fn check(bytes: &[u8]) -> Result<(), Fault>
         &mut unknowns,
         &mut goals,
         &mut least,
-        &mut tasks,
+        tasks,
     )?;
     Ok(())
+}
+
+// Accepts bytes, or names the first fault. Bytes are accepted exactly if they are the encoding of a lawful problem.
+// Nothing is allocated. Small problems get by with less working memory, since clearing the most would cost more than their check.
+pub fn check(bytes: &[u8]) -> Result<(), Fault>
+    ensures exact { λ r. ⌜ r ≡ checked (verdict (now (bytes .entry))) ⌝ }
+    ensures says { λ r. ⌜ Says (now (bytes .entry)) r ⌝ }
+    ensures decodes { λ _. ⌜ Verdict-is-exact ⌝ }
+{
+    if bytes.len() < 1056 {
+        let mut tasks = [NO_TASK; 1056];
+        check_with(bytes, &mut tasks)
+    } else if bytes.len() < 4128 {
+        let mut tasks = [NO_TASK; 4128];
+        check_with(bytes, &mut tasks)
+    } else {
+        let mut tasks = [NO_TASK; 16385];
+        check_with(bytes, &mut tasks)
+    }
 }

@@ -1,25 +1,16 @@
-use mathlib.Core.Path.{sym, _∙_, ap}
-use Rattle.std.proofs.shelf.Results.{err-from-errBy}
-use Rattle.verdict.specs.Verdict.{checked}
-use Rattle.verdict.proofs.Exact.{verdict-is-exact, says-ok, says-err}
-use Rattle.verdict.proofs.Accepting.{accepted-encodes}
+-- The theorem on the verdict stands beside what the check with its working memory says.
+use Rattle.verdict.proofs.Exact.{verdict-is-exact}
 use Rattle.verdict.proofs.check.check.Needs as need
 
-pub returns-in-Break-examine : need.returns-in-Break-examine
-returns-in-Break-examine c =
-    let p = err-from-errBy (c .from-residual .result) (c .from-residual .ensures .1) in
-    let e = c .in-Break-examine .ensures tt in
-    record {
-      exact = rw (p .1, p .2) (sym (ap checked e));
-      says = rw (p .1) (says-err (c .args .bytes .now) (c .in-Break-examine .field-0 .0) e);
-      decodes = verdict-is-exact;
-    }
+pub returns-then-bytes-lt1056 : need.returns-then-bytes-lt1056
+returns-then-bytes-lt1056 c = record { exact = c .check-with .ensures .exact; says = c .check-with .ensures .says; decodes = verdict-is-exact }
 
-pub returns : need.returns
-returns c =
-    let a = c .in-Continue-examine .ensures tt in
-    record {
-      exact = sym (ap checked (a .is));
-      says = says-ok (c .args .bytes .now) (a .problem) (a .is) (accepted-encodes a);
-      decodes = verdict-is-exact;
-    }
+pub returns-then-bytes-lt4128 : need.returns-then-bytes-lt4128
+returns-then-bytes-lt4128 c =
+    let e = c .check-with-then-bytes-lt4128 .ensures in
+    record { exact = e .exact; says = e .says; decodes = verdict-is-exact }
+
+pub returns-else-bytes-lt4128 : need.returns-else-bytes-lt4128
+returns-else-bytes-lt4128 c =
+    let e = c .check-with-else-bytes-lt4128 .ensures in
+    record { exact = e .exact; says = e .says; decodes = verdict-is-exact }

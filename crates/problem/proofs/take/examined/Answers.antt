@@ -1,0 +1,8 @@
+use Rattle.problem.proofs.Filling.{holds-fronts}
+use Rattle.problem.proofs.take.examined.Needs as need
+
+pub returns : need.returns
+returns c =
+    let x = c .examine .last in
+    holds-fronts (c .args .bytes .now) (x .types) (x .functions) (x .unknowns) (x .goals) (x .least) (c .in-Ok .counts) (c .in-Continue-tables .tables)
+    (c .in-Ok .ensures tt) (c .in-Continue-tables .ensures tt)
