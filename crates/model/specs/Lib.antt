@@ -1,0 +1,5 @@
+pub mod Partial
+pub mod Reading
+pub mod Within
+pub mod Places
+pub mod Models
