@@ -1,0 +1,5 @@
+use Rattle.depths.proofs.Leasts.{least-stands}
+use Rattle.depths.proofs.laws.least_stands.Needs as need
+
+pub returns : need.returns
+returns c = least-stands
