@@ -1,0 +1,5 @@
+pub mod Ways
+pub mod Faults
+pub mod Meaning
+pub mod Steps
+pub mod Claims

@@ -1,0 +1,4 @@
+pub mod Lits
+pub mod Rows
+pub mod Clauses
+pub mod Meant
