@@ -1,1 +1,14 @@
+pub mod Runs
 pub mod Examples
+pub mod Explained
+pub mod Determined
+pub mod Waiting
+pub mod Stays
+pub mod Related
+pub mod Lockstep
+pub mod Alone
+pub mod Steady
+pub mod Spent
+pub mod Scope
+pub mod Asked
+pub mod Names

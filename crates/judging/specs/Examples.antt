@@ -37,7 +37,7 @@ twice = build 1 (build 1 (build 0 v[] v∷ v[]) v∷ v[]) v∷ v[]
 abbrev pub Nine-steps : Type 0
 Nine-steps =
     (judge is-two (under is-two (choice twice)) (goal is-two 0) 9
-      ≡ some (is 1 h[] (root 0 ∷ (child (root 0) 1 0 ∷ (child (child (root 0) 1 0) 1 0 ∷ []))), 0))
+    ≡ some (is 1 h[] (root 0 ∷ (child (root 0) 1 0 ∷ (child (child (root 0) 1 0) 1 0 ∷ []))), 0))
     × (judge is-two (under is-two (choice twice)) (goal is-two 0) 8 ≡ none)
 
 -- undecided, the unknown is waited on once both sides are asked for: three steps, and two are too few
@@ -58,7 +58,7 @@ loops =
       functions = record { profile = record { params = []; result = 0 }; body = loop } ∷ [];
       unknowns = 0 ∷ (0 ∷ []);
       goals = loop ∷ (both (unknown 0) (unknown 1)
-      ∷ (both (case 0 (unknown 0) (con 0 1 t[] t∷ loop t∷ t[])) (con 0 0 t[]) ∷ []));
+          ∷ (both (case 0 (unknown 0) (con 0 1 t[] t∷ loop t∷ t[])) (con 0 0 t[]) ∷ []));
     }
 
 abbrev pub Loops : Type 0
@@ -91,7 +91,7 @@ predecessor =
     record {
       types = ([] ∷ ((1 ∷ []) ∷ [])) ∷ [];
       functions =
-        record { profile = record { params = 1 ∷ []; result = 1 }; body = case 1 (var 0) (var 0 t∷ var 1 t∷ t[]) } ∷ [];
+          record { profile = record { params = 1 ∷ []; result = 1 }; body = case 1 (var 0) (var 0 t∷ var 1 t∷ t[]) } ∷ [];
       unknowns = [];
       goals = [];
     }

@@ -3,3 +3,12 @@ pub mod Judging
 pub mod Paths
 pub mod Assignments
 pub mod Examples
+pub mod Meaning
+pub mod Explained
+pub mod Determined
+pub mod Stays
+pub mod Waiting
+pub mod Scope
+pub mod Steady
+pub mod Asked
+pub mod Names
