@@ -11,7 +11,7 @@ use Rattle.syntax.specs.Problems.{Problem, sig-of, Lawful}
 use Rattle.depths.specs.Laws.{Depths}
 use Rattle.judging.specs.Paths.{Path, Decision, under}
 use Rattle.judging.specs.Assignments.{Assigns, Judged, Awaits, Comes-true}
-use Rattle.finder.specs.Members.{_∈_}
+use Rattle.judging.specs.Asked.{_∈_}
 use Rattle.finder.specs.Levels.{measured, too-shallow, Within}
 use Rattle.finder.specs.Tables.{Table, paths, opening, width, first-table, opened-at, Tabled}
 use Rattle.finder.specs.Ways.{Way, decides-all, decided}

@@ -9,7 +9,7 @@ use Rattle.syntax.specs.Values.{Values}
 use Rattle.syntax.specs.Problems.{Problem}
 use Rattle.judging.specs.Paths.{Path, Decision}
 use Rattle.judging.specs.Assignments.{choice}
-use Rattle.finder.specs.Members.{_∈_}
+use Rattle.judging.specs.Asked.{_∈_}
 use Rattle.finder.specs.Tables.{Table, opening, same-path, width}
 use Rattle.finder.specs.Ways.{Way, decided}
 use Rattle.finder.specs.Clauses.{off}

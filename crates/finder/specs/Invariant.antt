@@ -9,7 +9,7 @@ use lib.ListN.{length}
 use Rattle.syntax.specs.Problems.{Problem}
 use Rattle.judging.specs.Paths.{Path, Decision}
 use Rattle.judging.specs.Assignments.{Judged}
-use Rattle.finder.specs.Members.{_∈_}
+use Rattle.judging.specs.Asked.{_∈_}
 use Rattle.finder.specs.Tables.{Table, opening, width, Tabled}
 use Rattle.finder.specs.Ways.{Way, One-case}
 use Rattle.finder.specs.Conflicts.{Choice, Conflict}

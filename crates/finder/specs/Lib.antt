@@ -1,4 +1,3 @@
-pub mod Members
 pub mod Levels
 pub mod Tables
 pub mod Ways

@@ -9,7 +9,7 @@ use lib.Dec.{eqb}
 use Rattle.syntax.specs.Typing.{cases-of}
 use Rattle.syntax.specs.Problems.{Problem, sig-of}
 use Rattle.judging.specs.Paths.{Path, root, child, type-of}
-use Rattle.finder.specs.Members.{_∈_}
+use Rattle.judging.specs.Asked.{_∈_}
 
 -- what the type of the unknown u has: its constructors, each by the types of its arguments, and how many they are
 abbrev pub cases-at : Problem → Path → List (List ℕ)
