@@ -1,0 +1,4 @@
+pub mod Tables
+pub mod Ways
+pub mod Clauses
+pub mod Invariant

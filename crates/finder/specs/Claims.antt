@@ -13,7 +13,7 @@ use Rattle.judging.specs.Paths.{Path, Decision, under}
 use Rattle.judging.specs.Assignments.{Assigns, Judged, Awaits, Comes-true}
 use Rattle.judging.specs.Asked.{_∈_}
 use Rattle.finder.specs.Levels.{measured, too-shallow, Within}
-use Rattle.finder.specs.Tables.{Table, paths, opening, width, first-table, opened-at, Tabled}
+use Rattle.finder.specs.Tables.{Table, paths, opening, width, first-table, opened-at, Distinct, Tabled}
 use Rattle.finder.specs.Ways.{Way, decides-all, decided}
 use Rattle.finder.specs.Clauses.{all-met, opening-clauses}
 use Rattle.finder.specs.Conflicts.{Conflict, conflict, conflict-clause, Forbids, Full-set, Full, Forbids-set, Allows}
@@ -42,7 +42,7 @@ Recording-keeps =
 
 -- Every opened unknown has exactly one case in a way that the chooser allows.
 abbrev pub Never-foreign : Type 0
-Never-foreign = (p : Problem) (T : Table) (R : List Conflict) (w : Way) → Fine p T R w → decides-all p w T ≡ true
+Never-foreign = (p : Problem) (T : Table) (R : List Conflict) (w : Way) → Distinct (paths T) → Fine p T R w → decides-all p w T ≡ true
 
 -- What a goal waits on is in the table and not opened.
 abbrev pub Awaited-in-table : Type 0

@@ -20,9 +20,13 @@ pub record One-case (w : Way) (a m : ℕ) : Type 0 where
   pub only : (d : ℕ) → d < m → w (a + d) ≡ true → d ≡ case
 
 -- the same, as a test: how many of the m variables from a on are 1
+abbrev pub bit : Bool → ℕ
+bit false = 0
+bit true = 1
+
 abbrev pub how-many : Way → ℕ → ℕ → ℕ
 how-many w a zero = 0
-how-many w a (suc m) = cond (w (a + m)) 1 0 + how-many w a m
+how-many w a (suc m) = bit (w (a + m)) + how-many w a m
 
 abbrev pub one-of : Problem → Way → Path → Option ℕ → Bool
 one-of p w u none = true
