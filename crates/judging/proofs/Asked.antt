@@ -1,18 +1,17 @@
 -- What judging a goal uses it has asked for, so unknowns that are alike in what is asked for judge alike. Assumes nothing.
-use mathlib.Core.Path.{_≡_, refl, sym, _∙_, ap, subst}
-use mathlib.Core.List.{List, [], _∷_, map}
-use mathlib.Core.Option.{Option, none, some}
-use Prim.Native.Nat.{ℕ, zero, suc}
-use lib.ListN.{getD}
+use mathlib.Core.Path.{_≡_, refl, _∙_}
+use mathlib.Core.List.{List, [], _∷_}
+use mathlib.Core.Option.{none, some}
+use Prim.Native.Nat.{ℕ}
 use Rattle.syntax.specs.Problems.{Problem, Lawful}
-use Rattle.judging.specs.Held.{Held, hold, Helds, h[], missing, goal}
+use Rattle.judging.specs.Held.{Held, Helds, goal}
 use Rattle.judging.specs.Judging.{Unknowns, Head, is, waits, Verdict, same, differ, wait, judge, compare}
 use Rattle.judging.specs.Explained.{All, all[], _all∷_}
 use Rattle.judging.specs.Scope.{Declares}
-use Rattle.judging.specs.Asked.{_∈_, first, later, Asked, asked-root, asked-kid, Decided, Explained-decided, Same-decided, Differ-decided, Goal-asked, Goal-awaits, Alike, Only-asked}
+use Rattle.judging.specs.Asked.{_∈_, first, later, Asked, asked-root, asked-kid, Explained-decided, Same-decided, Differ-decided, Goal-asked, Goal-awaits, Alike, Only-asked}
 use Rattle.judging.specs.Names.{named-head}
 use Rattle.judging.proofs.Related.{Like, l-hold, Likes, l[], Head-like, is-like, waits-like, Verdict-like, same-like, differ-like, wait-like}
-use Rattle.judging.proofs.Lockstep.{To, to, Naming, all-to, HL, judge-named, head-facts, verdict-facts}
+use Rattle.judging.proofs.Lockstep.{To, to, Naming, all-to, judge-named, head-facts, verdict-facts}
 use Rattle.judging.proofs.Alone.{own, Any, alone, like-own, map-own, head-own, result-own}
 use Rattle.judging.proofs.Scope.{lawful-scoped}
 

@@ -1,16 +1,11 @@
 -- One head at most, never both the same and different: two derivations side by side. And each derivation stands under a
 -- decision that decides more. Assumes nothing.
-use mathlib.Core.Path.{_≡_, refl, sym, _∙_, ap, subst, subst₂}
-use mathlib.Core.List.{List, [], _∷_, _++_}
-use mathlib.Core.Bool.{Bool, true, false}
-use mathlib.Core.Option.{Option, none, some, Option·none-ne-some, Option·some-injective}
-use Prim.Native.Nat.{ℕ, zero, suc, _+_}
-use lib.Dec.{eqb}
-use Rattle.std.proofs.shelf.Tests.{eqb-true, eqb-false}
+use mathlib.Core.Path.{_≡_, refl, sym, _∙_, ap, subst₂}
+use mathlib.Core.Option.{Option, some, Option·some-injective}
+use Prim.Native.Nat.{ℕ}
 use native.Mathlib.Nat.{suc-ne-zero}
-use Rattle.syntax.specs.Terms.{Term, var, unknown, con, call, case, both, not, equal, Terms, t[], _t∷_}
 use Rattle.syntax.specs.Problems.{Problem}
-use Rattle.judging.specs.Held.{Held, hold, free, Helds, h[], _h∷_, branch, body-of, bound, holds, frees, _h++_}
+use Rattle.judging.specs.Held.{Held, hold, Helds, branch, frees, _h++_}
 use Rattle.judging.specs.Judging.{Unknowns}
 use Rattle.judging.specs.Meaning.{Yields, y-free, y-unknown, y-var, y-con, y-call, y-case, y-not-false, y-not-true, y-left, y-right, y-both, y-same, y-differ, Same, s-same, SameAll, s-none, s-end, s-pair, Differs, d-head, d-pair, SomeDiffer, d-here, d-later}
 use Rattle.judging.specs.Explained.{deciding}

@@ -1,13 +1,13 @@
 -- The examples, by running the definition. Those that loop are out of steps at every depth. Assumes nothing.
 use mathlib.Core.Path.{_≡_, refl, ap}
-use mathlib.Core.List.{List, [], _∷_}
-use mathlib.Core.Option.{Option, none, some}
+use mathlib.Core.List.{[], _∷_}
+use mathlib.Core.Option.{none}
 use Prim.Native.Nat.{ℕ, zero, suc}
-use Rattle.syntax.specs.Terms.{Term, unknown, con, call, case, both, t[], _t∷_}
-use Rattle.judging.specs.Held.{Held, hold, Helds, h[], _h∷_, goal}
-use Rattle.judging.specs.Judging.{Head, is, go-on, give, join, after-subject, and-right, judges, judge}
-use Rattle.judging.specs.Paths.{Path, root, child, Decision, under}
-use Rattle.judging.specs.Examples.{Nine-steps, Right-asked, loops, loop, Loops, Right-alone, true-at-root, Left-for-ever, Next-variables, Examples}
+use Rattle.syntax.specs.Terms.{unknown, con, case, t[], _t∷_}
+use Rattle.judging.specs.Held.{Held, hold, Helds, h[], goal}
+use Rattle.judging.specs.Judging.{go-on, give, join, and-right, judges}
+use Rattle.judging.specs.Paths.{Path, root, Decision, under}
+use Rattle.judging.specs.Examples.{Nine-steps, Right-asked, loops, loop, Right-alone, true-at-root, Left-for-ever, Next-variables, Past-waiting, Examples}
 
 nine-steps : Nine-steps
 unfolding judges
@@ -24,6 +24,10 @@ right-alone = refl
 next-variables : Next-variables
 unfolding judges
 next-variables = refl
+
+past-waiting : Past-waiting
+unfolding judges
+past-waiting = (refl, refl)
 
 loops-at : (δ : Decision) (n s : ℕ) (ρ : Helds Path) → judges loops (under loops δ) n .head (hold loop ρ) s ≡ none
 unfolding judges
@@ -53,4 +57,4 @@ unfolding judges
 left-for-ever = (refl, λ s. both-at s s)
 
 pub examples : Examples
-examples = (nine-steps, right-asked, λ δ s. loops-at δ s s h[], right-alone, left-for-ever, next-variables)
+examples = (nine-steps, right-asked, λ δ s. loops-at δ s s h[], right-alone, left-for-ever, next-variables, past-waiting)

@@ -1,19 +1,19 @@
 -- Answers hold under every decision that agrees on their explanation: rule by rule, from the same of what the rule asks for.
 -- Assumes nothing.
-use mathlib.Core.Path.{_≡_, refl, sym, _∙_, ap, subst, subst₂}
-use mathlib.Core.List.{List, [], _∷_, _++_}
+use mathlib.Core.Path.{_≡_, refl, sym, _∙_, subst}
+use mathlib.Core.List.{List, _++_}
 use mathlib.Core.Bool.{Bool, true, false}
-use mathlib.Core.Option.{Option, none, some, Option·none-ne-some, Option·some-injective}
-use Prim.Native.Nat.{ℕ, zero, suc, _+_}
+use mathlib.Core.Option.{Option, none, some}
+use Prim.Native.Nat.{ℕ, zero, suc}
 use lib.Dec.{eqb}
 use Rattle.std.proofs.shelf.Tests.{eqb-true, eqb-false}
-use Rattle.syntax.specs.Terms.{Term, var, unknown, con, call, case, both, not, equal, Terms, t[], _t∷_}
+use Rattle.syntax.specs.Terms.{Term, var, unknown, con, call, case, both, not, equal, Terms}
 use Rattle.syntax.specs.Problems.{Problem}
-use Rattle.judging.specs.Held.{Held, hold, free, Helds, h[], _h∷_, branch, body-of, bound, holds, frees, _h++_}
-use Rattle.judging.specs.Judging.{Unknowns, Head, is, waits, Verdict, same, differ, wait, Judging, out, give, go-on, _then_, step, Asks, of-unknown, join, negation, and-true, and-waits, join-verdict, after-same, after-wait, truth, after-pair, pairs, by-constructors, after-right, after-left, compared, after-subject, and-right, headed, judges, judge, compare}
+use Rattle.judging.specs.Held.{Held, hold, free, Helds, h[], _h∷_, branch, body-of, bound, holds, _h++_}
+use Rattle.judging.specs.Judging.{Unknowns, Head, is, waits, Verdict, same, differ, wait, Judging, give, Asks, of-unknown, join, negation, and-true, and-waits, join-verdict, after-same, after-wait, truth, after-pair, pairs, by-constructors, after-right, after-left, compared, after-subject, and-right, headed, judges}
 use Rattle.judging.specs.Meaning.{Yields, y-free, y-unknown, y-var, y-con, y-call, y-case, y-not-false, y-not-true, y-left, y-right, y-both, y-same, y-differ, Same, s-same, SameAll, s-none, s-end, s-pair, Differs, d-head, d-pair, SomeDiffer, d-here, d-later}
-use Rattle.judging.specs.Explained.{All, all[], _all∷_, deciding, Agrees, Head-explained, Same-explained, Differ-explained}
-use Rattle.judging.proofs.Runs.{Always, always-out, always-give, always-then, always-map, always-step, always-at, all-left, all-right, all-join, all-first}
+use Rattle.judging.specs.Explained.{deciding, Agrees, Head-explained, Same-explained, Differ-explained}
+use Rattle.judging.proofs.Runs.{Always, always-out, always-give, always-then, always-map, always-step, always-at, all-left, all-right, all-first}
 
 module _ {U : Type 0} (P : Problem) (K : Unknowns U) where
   abbrev Head-holds : Held U → Head U → Type 0

@@ -1,12 +1,12 @@
 -- Judgings by unknowns of two kinds, one of which names the other: step for step they are the same, as far as the names are
 -- right. Assumes nothing.
 use mathlib.Core.Path.{_≡_, refl, sym, _∙_, ap, subst}
-use mathlib.Core.List.{List, [], _∷_, _++_, map}
+use mathlib.Core.List.{List, [], _∷_, map}
 use mathlib.Core.Option.{Option, none, some}
 use Prim.Native.Nat.{ℕ, zero, suc}
 use Rattle.syntax.specs.Problems.{Problem}
-use Rattle.judging.specs.Held.{Held, hold, free, Helds, h[], _h∷_, body-of, frees}
-use Rattle.judging.specs.Judging.{Unknowns, Head, is, waits, Verdict, same, differ, wait, Judging, give, go-on, _then_, step, Asks, headed, compared, judges, judge, compare}
+use Rattle.judging.specs.Held.{Held, hold, Helds, _h∷_, body-of}
+use Rattle.judging.specs.Judging.{Unknowns, Head, is, Verdict, same, differ, Judging, give, go-on, _then_, step, judges, judge, compare}
 use Rattle.judging.specs.Explained.{All, all[], _all∷_}
 use Rattle.judging.specs.Scope.{Scoped}
 use Rattle.judging.specs.Asked.{Decided}

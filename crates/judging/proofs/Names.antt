@@ -1,12 +1,10 @@
 -- Judging by numbers is judging by the paths that they name. Assumes nothing.
-use mathlib.Core.Path.{_≡_}
-use Prim.Native.Nat.{ℕ}
 use Rattle.judging.specs.Held.{goal}
 use Rattle.judging.specs.Paths.{under}
 use Rattle.judging.specs.Scope.{Declares}
 use Rattle.judging.specs.Asked.{Asked, asked-root, asked-kid}
-use Rattle.judging.specs.Names.{Names, By-names}
-use Rattle.judging.proofs.Lockstep.{Naming, judge-named}
+use Rattle.judging.specs.Names.{By-names}
+use Rattle.judging.proofs.Lockstep.{judge-named}
 use Rattle.judging.proofs.Scope.{lawful-scoped}
 use Rattle.judging.proofs.Asked.{all-members, goal-like}
 

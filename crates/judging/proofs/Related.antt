@@ -1,6 +1,6 @@
 -- Judging knows its unknowns only by what it asks of them: two judgings whose unknowns are related go the same way, and give
 -- related results. One traversal of the rules, over any notion of two judgings that go together. Assumes nothing.
-use mathlib.Core.Path.{_≡_, refl, sym, _∙_, ap, subst}
+use mathlib.Core.Path.{_≡_, refl, sym, subst}
 use mathlib.Core.List.{List, [], _∷_, _++_}
 use mathlib.Core.Bool.{Bool, true, false}
 use mathlib.Core.Option.{Option, none, some}
@@ -8,7 +8,7 @@ use Prim.Native.Nat.{ℕ, zero, suc}
 use lib.Dec.{eqb}
 use Rattle.syntax.specs.Terms.{Term, var, unknown, con, call, case, both, not, equal, Terms, t[], _t∷_}
 use Rattle.syntax.specs.Problems.{Problem}
-use Rattle.judging.specs.Held.{Held, hold, free, Helds, h[], _h∷_, missing, branch, body-of, bound, holds, frees, _h++_}
+use Rattle.judging.specs.Held.{Held, hold, free, Helds, h[], _h∷_, branch, body-of, bound, holds, frees, _h++_}
 use Rattle.judging.specs.Judging.{Unknowns, Head, is, waits, Verdict, same, differ, wait, Judging, give, _then_, Asks, of-unknown, join, negation, and-true, and-waits, join-verdict, after-same, after-wait, truth, after-pair, pairs, by-constructors, after-right, after-left, compared, after-subject, and-right, headed}
 use Rattle.judging.specs.Scope.{Scoped, All-scoped}
 

@@ -1,13 +1,12 @@
 -- A typed term names only unknowns that are declared, and so do the bodies and goals of a lawful problem. Assumes nothing.
-use mathlib.Core.Path.{_≡_}
 use mathlib.Core.List.{List, [], _∷_}
 use Prim.Native.Nat.{ℕ, zero, suc, _<_}
 use lib.ListN.{length, getD}
 use Rattle.syntax.specs.Terms.{Term, var, unknown, con, call, case, both, not, equal, Terms, t[], _t∷_}
 use Rattle.syntax.specs.Typing.{Sig, Want, Typed, AllTyped, each-of, branches-of, params-of, arguments, cases-of}
-use Rattle.syntax.specs.Problems.{Function, Problem, sig-of, Each, Lawful, Lawful-function, Lawful-goal}
-use Rattle.judging.specs.Held.{missing, no-function, body-of}
-use Rattle.judging.specs.Scope.{Scoped, All-scoped, Declares, Lawful-scoped}
+use Rattle.syntax.specs.Problems.{Function, sig-of, Each, Lawful-function, Lawful-goal}
+use Rattle.judging.specs.Held.{missing, no-function}
+use Rattle.judging.specs.Scope.{Scoped, All-scoped, Lawful-scoped}
 
 module _ (sig : Sig) where
   abbrev N : ℕ → Type 0

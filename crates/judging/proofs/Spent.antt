@@ -7,7 +7,7 @@ use native.Mathlib.Omega.{arith}
 use native.Mathlib.Nat.{suc-add, zero-add, add-sub-of-le, sub-add-cancel, le-refl}
 use Rattle.syntax.specs.Problems.{Problem}
 use Rattle.judging.specs.Held.{Held}
-use Rattle.judging.specs.Judging.{Unknowns, Head, Verdict, Judging, give, go-on, _then_, step, Asks, headed, compared, judges, judge, compare}
+use Rattle.judging.specs.Judging.{Unknowns, Head, Verdict, Judging, give, go-on, _then_, step, judges, judge, compare}
 use Rattle.judging.specs.Steady.{Takes, Judging-takes, Comparing-takes, More-steps}
 use Rattle.judging.proofs.Related.{Together, Asks-run, headed-run, compared-run}
 use Rattle.judging.proofs.Lockstep.{matching}

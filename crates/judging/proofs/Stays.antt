@@ -1,14 +1,10 @@
 -- Answers stay: explained by one judging, and true of the other, under one and the same decision. Assumes nothing.
-use mathlib.Core.Path.{_≡_, refl}
-use mathlib.Core.List.{List, [], _∷_}
-use mathlib.Core.Option.{Option}
-use Prim.Native.Nat.{ℕ}
+use mathlib.Core.Path.{_≡_}
+use mathlib.Core.List.{List}
 use native.Mathlib.Nat.{suc-ne-zero}
-use Rattle.syntax.specs.Problems.{Problem}
-use Rattle.judging.specs.Held.{Held, Helds}
-use Rattle.judging.specs.Judging.{Unknowns, Head, is, waits, judge}
+use Rattle.judging.specs.Judging.{Head, is, waits}
 use Rattle.judging.specs.Meaning.{Yields}
-use Rattle.judging.specs.Explained.{deciding, Agrees}
+use Rattle.judging.specs.Explained.{deciding}
 use Rattle.judging.specs.Stays.{False-stays, Answer-stays}
 use Rattle.judging.proofs.Explained.{head-explained}
 use Rattle.judging.proofs.Determined.{one-head}

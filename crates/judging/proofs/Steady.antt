@@ -1,18 +1,16 @@
 -- Steps: judging to a greater depth is the same where there are no more steps than depth, so judging obeys its rules; and with
 -- k steps more, k more are left, or the answer was wanting for less than k. Assumes nothing.
 use mathlib.Core.Path.{_≡_, refl, sym, _∙_, ap, subst}
-use mathlib.Core.List.{List}
-use mathlib.Core.Option.{Option, none, some, Option·none-ne-some, Option·some-injective}
+use mathlib.Core.Option.{Option, none, some}
 use Prim.Native.Nat.{ℕ, zero, suc, _+_, _-_, _≤_, _<_}
 use native.Mathlib.Omega.{arith}
 use native.Mathlib.Nat.{suc-add, add-sub-of-le, le-refl, le-trans}
 use Rattle.syntax.specs.Problems.{Problem}
 use Rattle.judging.specs.Held.{Held}
-use Rattle.judging.specs.Judging.{Unknowns, Head, Verdict, Judging, give, go-on, _then_, step, Asks, headed, compared, judges, judge, compare}
-use Rattle.judging.specs.Steady.{Takes, Judging-takes, Comparing-takes, More-steps, itself, Judge-unfolds, Compare-unfolds}
-use Rattle.judging.specs.Names.{named-head, named-verdict}
-use Rattle.judging.proofs.Related.{Together, Like, Head-like, Verdict-like, Asks-run, headed-run, compared-run}
-use Rattle.judging.proofs.Lockstep.{To, InE, Awaited, HL, VL, matching, head-named, verdict-named}
+use Rattle.judging.specs.Judging.{Unknowns, Head, Verdict, Judging, give, go-on, _then_, step, headed, compared, judges, judge, compare}
+use Rattle.judging.specs.Steady.{itself, Judge-unfolds, Compare-unfolds}
+use Rattle.judging.proofs.Related.{Together, Head-like, Verdict-like, Asks-run, headed-run, compared-run}
+use Rattle.judging.proofs.Lockstep.{To, InE, Awaited, matching, head-named, verdict-named}
 use Rattle.judging.proofs.Alone.{own, Any, alone, like-own, head-own, verdict-own}
 
 -- Two judgings that are the same up to d steps.
@@ -146,3 +144,22 @@ judge-unfolds U = unfolds
 
 pub compare-unfolds : (U : Type 0) → Compare-unfolds U
 compare-unfolds U = unfolds-compare
+
+-- The same for code that counts its steps down from s to s - 1.
+pub judge-out : {U : Type 0} (P : Problem) (K : Unknowns U) (h : Held U) → judge P K h 0 ≡ none
+judge-out P K h = unfolds P K h 0
+
+pub judge-rule : {U : Type 0} (P : Problem) (K : Unknowns U) (h : Held U) (s : ℕ) → 0 < s
+    → judge P K h s ≡ headed P K (itself P K) h (s - 1)
+judge-rule P K h s l =
+    let e : s ≡ suc (s - 1) = omega (arith, l) in
+    ap (judge P K h) e ∙ unfolds P K h (suc (s - 1))
+
+pub compare-out : {U : Type 0} (P : Problem) (K : Unknowns U) (l r : Held U) → compare P K l r 0 ≡ none
+compare-out P K l r = unfolds-compare P K l r 0
+
+pub compare-rule : {U : Type 0} (P : Problem) (K : Unknowns U) (l r : Held U) (s : ℕ) → 0 < s
+    → compare P K l r s ≡ compared (itself P K) l r (s - 1)
+compare-rule P K l r s le =
+    let e : s ≡ suc (s - 1) = omega (arith, le) in
+    ap (compare P K l r) e ∙ unfolds-compare P K l r (suc (s - 1))

@@ -1,20 +1,22 @@
 -- What is judged is true, and where a judging waits the meaning gives nothing: rule by rule, from the same of what the rule
 -- asks for. Assumes nothing.
-use mathlib.Core.Path.{_≡_, refl, sym, _∙_, ap, subst, subst₂}
-use mathlib.Core.List.{List, [], _∷_, _++_}
+use mathlib.Core.Path.{_≡_, refl, sym, _∙_, subst, subst₂}
+use mathlib.Core.List.{List, _++_}
 use mathlib.Core.Bool.{Bool, true, false}
-use mathlib.Core.Option.{Option, none, some, Option·none-ne-some, Option·some-injective}
-use Prim.Native.Nat.{ℕ, zero, suc, _+_}
+use mathlib.Core.Option.{Option, none, some, Option·none-ne-some}
+use Prim.Native.Nat.{ℕ, zero, suc}
 use lib.Dec.{eqb}
 use Rattle.std.proofs.shelf.Tests.{eqb-true, eqb-false}
 use native.Mathlib.Nat.{suc-ne-zero}
-use Rattle.syntax.specs.Terms.{Term, var, unknown, con, call, case, both, not, equal, Terms, t[], _t∷_}
+use Rattle.syntax.specs.Terms.{Term, var, unknown, con, call, case, both, not, equal, Terms}
 use Rattle.syntax.specs.Problems.{Problem}
-use Rattle.judging.specs.Held.{Held, hold, free, Helds, h[], _h∷_, branch, body-of, bound, holds, frees, _h++_}
-use Rattle.judging.specs.Judging.{Unknowns, Head, is, waits, Verdict, same, differ, wait, Judging, out, give, go-on, _then_, step, Asks, of-unknown, join, negation, and-true, and-waits, join-verdict, after-same, after-wait, truth, after-pair, pairs, by-constructors, after-right, after-left, compared, after-subject, and-right, headed, judges, judge, compare}
+use Rattle.judging.specs.Held.{Held, hold, free, Helds, h[], _h∷_, branch, body-of, bound, holds, _h++_}
+use Rattle.judging.specs.Judging.{Unknowns, Head, is, waits, Verdict, same, differ, wait, Judging, Asks, of-unknown, join, negation, and-true, and-waits, join-verdict, after-same, after-wait, truth, after-pair, pairs, by-constructors, after-right, after-left, compared, after-subject, and-right, headed, judges, judge, compare}
 use Rattle.judging.specs.Meaning.{Yields, y-free, y-unknown, y-var, y-con, y-call, y-case, y-not-false, y-not-true, y-left, y-right, y-both, y-same, y-differ, Same, s-same, SameAll, s-none, s-end, s-pair, Differs, d-head, d-pair, SomeDiffer, d-here, d-later}
 use Rattle.judging.proofs.Runs.{Always, always-out, always-give, always-then, always-map, always-step, always-at}
+use Rattle.judging.specs.Waiting.{Waits-honest, Wait-honest}
 use Rattle.judging.proofs.Determined.{one-head, same-differ, same-differ-all}
+use Rattle.judging.proofs.Asked.{head-undecided, verdict-undecided}
 
 module _ {U : Type 0} (P : Problem) (K : Unknowns U) where
   abbrev pub Nothing : Held U → Type 0
@@ -247,3 +249,11 @@ head-true P K h s left a e = always-at (judges-true P K s .heads h) e
 pub verdict-true : {U : Type 0} (P : Problem) (K : Unknowns U) (l r : Held U) (s left : ℕ) (v : Verdict U)
     → compare P K l r s ≡ some (v, left) → Verdict-true P K l r v
 verdict-true P K l r s left v e = always-at (judges-true P K s .comparings l r) e
+
+pub waits-honest : (U : Type 0) → Waits-honest U
+waits-honest U P K h s left u e = (head-undecided P K h s left u e, head-true P K h s left (waits u) e)
+
+pub wait-honest : (U : Type 0) → Wait-honest U
+wait-honest U P K l r s left u e =
+    let q = verdict-true P K l r s left (wait u) e in
+    (verdict-undecided P K l r s left u e, q .0, q .1)

@@ -1,13 +1,12 @@
 -- Which unknowns judging a goal asks for, and that no others count. Assumes nothing.
 use mathlib.Core.Path.{_≡_}
-use mathlib.Core.List.{List, [], _∷_}
-use mathlib.Core.Option.{Option, none, some}
+use mathlib.Core.List.{List, _∷_}
+use mathlib.Core.Option.{none, some}
 use Prim.Native.Nat.{ℕ, _<_}
 use lib.ListN.{length}
-use Rattle.syntax.specs.Terms.{Term, var, unknown, con, call, case, both, not, equal, Terms, t[], _t∷_}
 use Rattle.syntax.specs.Problems.{Problem, Lawful}
-use Rattle.judging.specs.Held.{Held, Helds, body-of, goal, missing}
-use Rattle.judging.specs.Judging.{Unknowns, is, waits, same, differ, wait, judge, compare}
+use Rattle.judging.specs.Held.{Held, Helds, goal}
+use Rattle.judging.specs.Judging.{Unknowns, is, waits, same, differ, judge, compare}
 use Rattle.judging.specs.Explained.{All}
 
 infix 40 _∈_

@@ -7,7 +7,7 @@ use Prim.Native.Nat.{ℕ, zero, suc}
 use lib.Dec.{eqb}
 use Rattle.syntax.specs.Values.{Value, Values, build, v[], _v∷_, OfTypes}
 use Rattle.syntax.specs.Problems.{Problem, sig-of}
-use Rattle.judging.specs.Held.{Held, Helds, goal}
+use Rattle.judging.specs.Held.{Helds, goal}
 use Rattle.judging.specs.Judging.{is, waits, judge}
 use Rattle.judging.specs.Paths.{Path, root, child, Decision, under}
 

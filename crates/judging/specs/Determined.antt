@@ -1,7 +1,7 @@
 -- The meaning is determined: one head at most, never both the same and different; and to decide more takes none of it back.
 -- Assumes nothing.
 use mathlib.Core.Path.{_≡_}
-use mathlib.Core.Option.{Option, none, some}
+use mathlib.Core.Option.{Option, some}
 use Prim.Native.Nat.{ℕ}
 use Rattle.syntax.specs.Problems.{Problem}
 use Rattle.judging.specs.Held.{Held, Helds}

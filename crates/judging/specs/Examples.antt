@@ -1,15 +1,15 @@
 -- Judging, run by its definition: how steps are counted, what is out of steps for ever, and how `and` explains its false.
 -- Assumes nothing.
 use mathlib.Core.Path.{_≡_}
-use mathlib.Core.List.{List, [], _∷_}
-use mathlib.Core.Option.{Option, none, some}
+use mathlib.Core.List.{[], _∷_}
+use mathlib.Core.Option.{none, some}
 use Prim.Native.Nat.{ℕ, zero, suc}
-use Rattle.syntax.specs.Terms.{Term, unknown, con, call, case, both, not, equal, t[], _t∷_, var}
+use Rattle.syntax.specs.Terms.{Term, unknown, con, call, case, both, equal, t[], _t∷_, var}
 use Rattle.syntax.specs.Values.{Values, build, v[], _v∷_}
 use Rattle.syntax.specs.Problems.{Problem}
-use Rattle.judging.specs.Held.{h[], _h∷_, hold, free, goal}
+use Rattle.judging.specs.Held.{h[], _h∷_, hold, goal}
 use Rattle.judging.specs.Judging.{is, waits, judge}
-use Rattle.judging.specs.Paths.{Path, root, child, Decision, under}
+use Rattle.judging.specs.Paths.{root, child, Decision, under}
 use Rattle.judging.specs.Assignments.{choice}
 
 abbrev pub undecided : Decision
@@ -101,5 +101,30 @@ Next-variables =
     judge predecessor (under predecessor undecided) (hold (call 0 (two t∷ t[])) h[]) 6
     ≡ some (is 1 (hold (con 1 0 t[]) h[] h∷ h[]) [], 0)
 
+-- Pairs of natural numbers (type 2), and goals that a pair with an unknown first is another, which the second tells apart, and
+-- that it is one which the second does not tell apart.
+abbrev pub zero-term : Term
+zero-term = con 1 0 t[]
+
+abbrev pub pair : Term → Term → Term
+pair a b = con 2 0 (a t∷ b t∷ t[])
+
+abbrev pub pairings : Problem
+pairings =
+    record {
+      types = ([] ∷ ((1 ∷ []) ∷ [])) ∷ (((1 ∷ (1 ∷ [])) ∷ []) ∷ []);
+      functions = [];
+      unknowns = 1 ∷ [];
+      goals =
+          equal 2 (pair (unknown 0) zero-term) (pair zero-term two)
+          ∷ (equal 2 (pair (unknown 0) zero-term) (pair zero-term zero-term) ∷ []);
+    }
+
+-- Arguments are compared past a waiting pair: a later false one decides, and else the first waiting one is waited on.
+abbrev pub Past-waiting : Type 0
+Past-waiting =
+    (judge pairings (under pairings undecided) (goal pairings 0) 9 ≡ some (is 0 h[] [], 0))
+    × (judge pairings (under pairings undecided) (goal pairings 1) 9 ≡ some (waits (root 0), 0))
+
 abbrev pub Examples : Type 0
-Examples = Nine-steps × Right-asked × Loops × Right-alone × Left-for-ever × Next-variables
+Examples = Nine-steps × Right-asked × Loops × Right-alone × Left-for-ever × Next-variables × Past-waiting

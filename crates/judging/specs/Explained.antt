@@ -2,7 +2,7 @@
 -- unknowns. Assumes nothing.
 use mathlib.Core.Path.{_≡_}
 use mathlib.Core.List.{List, [], _∷_}
-use mathlib.Core.Option.{Option, none, some}
+use mathlib.Core.Option.{Option, some}
 use Prim.Native.Nat.{ℕ}
 use Rattle.syntax.specs.Problems.{Problem}
 use Rattle.judging.specs.Held.{Held, Helds}

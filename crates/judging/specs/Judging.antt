@@ -4,7 +4,7 @@ use mathlib.Core.Option.{Option, none, some}
 use mathlib.Core.Bool.{Bool, true, false}
 use Prim.Native.Nat.{ℕ, zero, suc}
 use lib.Dec.{eqb}
-use Rattle.syntax.specs.Terms.{Term, var, unknown, con, call, case, both, not, equal, Terms}
+use Rattle.syntax.specs.Terms.{var, unknown, con, call, case, both, not, equal, Terms}
 use Rattle.syntax.specs.Problems.{Problem}
 use Rattle.judging.specs.Held.{Held, hold, free, Helds, h[], _h∷_, branch, body-of, bound, holds, frees, _h++_}
 
@@ -15,8 +15,8 @@ pub record Unknowns (U : Type 0) : Type 0 where
   pub kids : U → ℕ → List U
   pub chosen : U → Option ℕ
 
--- The head of a held term: a constructor with held arguments, and its explanation, which is the unknowns whose chosen
--- constructor was used; or the unknown that it waits on.
+-- The head of a held term: a constructor with held arguments, and its explanation, the set of unknowns whose chosen
+-- constructor was used, as a list that may name one more than once; or the unknown that it waits on.
 pub data Head (U : Type 0) : Type 0 where
   is : (c : ℕ) → Helds U → List U → Head U
   waits : U → Head U

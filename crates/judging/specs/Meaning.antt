@@ -1,7 +1,7 @@
 -- What held terms mean: a relation, with no steps, no waiting and no explanations, in which either side's false makes an
 -- `and` false. Assumes nothing.
 use mathlib.Core.Path.{_≡_}
-use mathlib.Core.Option.{Option, none, some}
+use mathlib.Core.Option.{some}
 use Prim.Native.Nat.{ℕ, suc}
 use Rattle.syntax.specs.Terms.{Term, var, unknown, con, call, case, both, not, equal, Terms}
 use Rattle.syntax.specs.Problems.{Problem}

@@ -1,7 +1,7 @@
 -- Judging by one kind of unknowns as judging by another: by the numbers of a table or the places of a written model as by the
 -- paths that they name. Assumes nothing.
 use mathlib.Core.Path.{_≡_}
-use mathlib.Core.List.{List, [], _∷_, map}
+use mathlib.Core.List.{map}
 use mathlib.Core.Option.{Option, none, some}
 use Prim.Native.Nat.{ℕ, _<_}
 use lib.ListN.{length}

@@ -1,7 +1,7 @@
 -- A judging that waits is honest: what it waits on is undecided, and as things stand the meaning gives nothing either.
 -- Assumes nothing.
 use mathlib.Core.Path.{_≡_}
-use mathlib.Core.Option.{Option, none, some}
+use mathlib.Core.Option.{none, some}
 use Prim.Native.Nat.{ℕ}
 use Rattle.syntax.specs.Problems.{Problem}
 use Rattle.judging.specs.Held.{Held, Helds}
