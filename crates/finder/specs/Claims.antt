@@ -58,8 +58,8 @@ Forbids-only = (p : Problem) (T : Table) (k : Conflict) (α : Values) → Explai
 -- in force switched on, the new conflict forbids a full set that the record still allowed.
 abbrev pub Conflict-explained : Type 0
 Conflict-explained =
-    (p : Problem) (T : Table) (w : Way) (count g : ℕ) (E : List Path) → Tabled p T count → g < length (p .goals)
-    → Judged p (decided p T w) g 0 E → Explained p T (conflict p T w g E)
+    (p : Problem) (T : Table) (w : Way) (g : ℕ) (E : List Path) → g < length (p .goals) → Judged p (decided p T w) g 0 E
+    → Explained p T (conflict p T w g E)
 
 abbrev pub New-in-full : Type 0
 New-in-full =
