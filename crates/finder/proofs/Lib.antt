@@ -5,3 +5,5 @@ pub mod Invariant
 pub mod Asking
 pub mod Conflicts
 pub mod Typed
+pub mod Findings
+pub mod Models
