@@ -7,3 +7,4 @@ pub mod Conflicts
 pub mod Typed
 pub mod Findings
 pub mod Models
+pub mod Assigned
