@@ -49,7 +49,7 @@ module _ (w : Way) where
   or-false true = refl
   or-false false = refl
 
-  and-true : (b : Bool) → (b && true) ≡ b
+  pub and-true : (b : Bool) → (b && true) ≡ b
   and-true true = refl
   and-true false = refl
 
@@ -169,7 +169,7 @@ module _ (w : Way) where
       ∙ ap (λ b. not (w (k .of)) || b) (some-differs-is T (k .choices) f) ∙ not-both (w (k .of)) (says-all T w (k .choices))
 
 -- the entries of an opening
-entries-join : (xs ys : List (List ℕ)) → entries (xs ++ ys) ≡ entries xs + entries ys
+pub entries-join : (xs ys : List (List ℕ)) → entries (xs ++ ys) ≡ entries xs + entries ys
 entries-join [] ys = omega arith
 entries-join (x ∷ xs) ys = let ih = entries-join xs ys in omega (arith, ih)
 

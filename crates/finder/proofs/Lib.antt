@@ -1,6 +1,7 @@
 pub mod Tables
 pub mod Ways
 pub mod Clauses
+pub mod Extended
 pub mod Invariant
 pub mod Asking
 pub mod Conflicts

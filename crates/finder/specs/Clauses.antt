@@ -5,8 +5,9 @@ use mathlib.Core.List.{List, [], _∷_, _++_}
 use mathlib.Core.Bool.{Bool, true, false, _&&_}
 use Prim.Native.Nat.{ℕ, zero, suc, _+_, _-_, _*_, _/_, _≤_}
 use lib.ListN.{length}
-use Rattle.chooser.specs.Ways.{lit, every, some as any}
-use Rattle.chooser.specs.Meaning.{Meaning}
+use Rattle.chooser.specs.Ways.{lit, some as any}
+use Rattle.chooser.specs.Meaning.{Meaning, Same}
+use Rattle.chooser.specs.Steps.{Grown, Added}
 use Rattle.finder.specs.Ways.{Way}
 
 abbrev pub on : ℕ → ℕ
@@ -54,3 +55,11 @@ pub record Extended (M M′ : Meaning) (m : ℕ) (cs : List (List ℕ)) : Type 0
   pub shrinks : M′ .left ≤ M .left
   pub spends : M .left ≤ M′ .left + entries cs
   pub allows : (w : Way) → M′ .ways w ≡ (M .ways w && all-met w cs)
+
+-- So do the calls of a chooser, and one after another.
+pub record Extending : Type 0 where
+  pub by-asking : (M M′ : Meaning) → Same M M′ → Extended M M′ 0 []
+  pub by-variable : (M M′ : Meaning) (v : ℕ) → Grown M M′ v → Extended M M′ 1 []
+  pub by-clause : (M M′ : Meaning) (c : List ℕ) → Added M M′ c → Extended M M′ 0 (c ∷ [])
+  pub one-by-one : (M M₁ M₂ : Meaning) (m m′ : ℕ) (cs cs′ : List (List ℕ)) → Extended M M₁ m cs → Extended M₁ M₂ m′ cs′
+      → Extended M M₂ (m + m′) (cs ++ cs′)

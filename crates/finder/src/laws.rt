@@ -1,10 +1,17 @@
 // The theory of a session's table: each function's contract is a theorem, and its proof is what the function is for.
-ghost use Rattle.finder.specs.Clauses.{Opening-takes};
+ghost use Rattle.finder.specs.Clauses.{Opening-takes, Extending};
 ghost use Rattle.finder.specs.Claims.{Begins-sound, Opening-keeps, Recording-keeps, Never-foreign, Awaited-in-table, Forbids-only, Conflict-explained, New-in-full, Findings-stand, Models-stand, None-stands, Never-stands, Shallow-stands};
 
 // An opening of m constructors takes (m + 1) + 3m(m - 1)/2 entries.
 pub fn opening_takes_stands() -> u8
     ensures { λ _. ⌜ Opening-takes ⌝ }
+{
+    0
+}
+
+// What a chooser's calls do, one after another, adds up to the variables and clauses that they gave it.
+pub fn extending_stands() -> u8
+    ensures { λ _. ⌜ Extending ⌝ }
 {
     0
 }
