@@ -301,4 +301,3 @@ pub roots-distinct : (k n : ℕ) → Distinct (paths (roots-from k n))
 roots-distinct k zero = apart[]
 roots-distinct k (suc n) =
     (λ m. let q = roots-are (suc k) n (root k) m in let e = ap root-of (q .1) in omega (arith, e)) apart∷ roots-distinct (suc k) n
-

@@ -256,7 +256,6 @@ module _ (p : Problem) (T : Table) (count a : ℕ) (kids : ℕ → ℕ) (n : ℕ
           absurd (not-new (at T′ m) (opened-before (at T′ m) b e)
           (subst (λ x. at T′ x ∈ paths (kids-of u 0 cs)) (sym i) (new-in (m - length T) (omega (arith, g, l, far)))))
 
-
 pub kids-of-length : (u : Path) (c : ℕ) (cs : List (List ℕ)) → length (kids-of u c cs) ≡ births cs
 kids-of-length u c [] = refl
 kids-of-length u c (ts ∷ cs) =
