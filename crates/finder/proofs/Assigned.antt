@@ -5,10 +5,10 @@ use mathlib.Core.Logic.{_⊎_, inl, inr}
 use mathlib.Core.List.{List, [], _∷_}
 use mathlib.Core.Bool.{Bool, true, false, _&&_, _||_, cond}
 use mathlib.Core.Option.{Option, none, some, Option·getD, Option·none-ne-some, Option·some-injective}
-use Prim.Native.Nat.{ℕ, zero, suc, _+_, _-_, _≤_, _<_, max}
+use Prim.Native.Nat.{ℕ, zero, suc, _+_, _-_, _≤_, _<_}
 use native.Mathlib.Omega.{arith}
 use lib.ListN.{length, getD}
-use lib.Dec.{eqb, ltb, leb}
+use lib.Dec.{eqb, ltb}
 use Rattle.std.proofs.shelf.Tests.{both-ways, cases-bool, and-parts, and-from, or-cases, or-left, or-right, eq-eqb, eqb-true, lt-ltb, le-ltb, ltb-true, leb-true, cond-true, cond-false, false≢true}
 use Rattle.chooser.specs.Ways.{lit, every}
 use Rattle.syntax.specs.Typing.{Sig, constructors, arguments}
@@ -20,13 +20,13 @@ use Rattle.judging.specs.Asked.{_∈_, first, later}
 use Rattle.judging.specs.Assignments.{nth, argument, part, constructor-of, choice, Assigns}
 use Rattle.judging.proofs.Closed.{goal-closed}
 use Rattle.judging.proofs.Truth.{false-forbids}
-use Rattle.finder.specs.Levels.{Measures, measured, level, reach, fits, any-deeper, too-shallow, Within}
+use Rattle.finder.specs.Levels.{Measures, measured, level, any-deeper, Within}
 use Rattle.finder.specs.Tables.{Entry, Table, paths, same-path, opening, width, arity, Tabled}
 use Rattle.finder.specs.Ways.{Way, One-case}
-use Rattle.finder.specs.Conflicts.{Choice, Conflict}
+use Rattle.finder.specs.Conflicts.{Conflict}
 use Rattle.finder.specs.Asking.{switches, asked}
 use Rattle.finder.specs.Models.{Solves}
-use Rattle.finder.specs.Invariant.{says, says-all, meets, Fine, Explained, Sound}
+use Rattle.finder.specs.Invariant.{says-all, meets, Fine, Explained}
 use Rattle.finder.specs.Claims.{None-stands, Never-stands, Shallow-stands}
 use Rattle.finder.proofs.Tables.{same-some, same-path-is, in-table, opening-entry, declared-root, declared-at}
 use Rattle.finder.proofs.Clauses.{says-opened}

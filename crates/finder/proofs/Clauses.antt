@@ -2,19 +2,18 @@
 use mathlib.Core.Path.{_≡_, refl, sym, _∙_, ap, subst}
 use mathlib.Core.Logic.{_⊎_, inl, inr}
 use mathlib.Core.List.{List, [], _∷_, _++_}
-use mathlib.Core.Bool.{Bool, true, false, not, _&&_, _||_, cond}
-use mathlib.Core.Option.{Option, none, some}
-use Prim.Native.Nat.{ℕ, zero, suc, _+_, _-_, _*_, _/_, _%_, _≤_, _<_}
+use mathlib.Core.Bool.{Bool, true, false, not, _&&_, _||_}
+use mathlib.Core.Option.{some}
+use Prim.Native.Nat.{ℕ, zero, suc, _+_, _-_, _*_, _%_, _<_}
 use native.Mathlib.Omega.{arith}
 use native.Mathlib.Nat.{suc-mul, mul-suc}
 use lib.ListN.{length, length-append}
-use lib.Dec.{eqb}
 use Rattle.std.proofs.shelf.Tests.{and-parts, and-from, or-cases, or-left, or-right, cases-order, eq-eqb, ne-eqb, cond-true, cond-false, false≢true}
 use Rattle.chooser.specs.Ways.{lit, some as any}
 use Rattle.judging.specs.Asked.{_∈_, first, later}
 use Rattle.finder.specs.Tables.{Table, opening}
 use Rattle.finder.specs.Ways.{Way, One-case}
-use Rattle.finder.specs.Clauses.{on, off, all-met, some-case, not-with, not-two, opening-clauses, entries, opening-entries, Opening-takes}
+use Rattle.finder.specs.Clauses.{on, off, all-met, some-case, not-with, not-two, opening-clauses, entries, Opening-takes}
 use Rattle.finder.specs.Conflicts.{Choice, Conflict, differs, some-differs, conflict-clause}
 use Rattle.finder.specs.Invariant.{says-from, says, says-all, meets}
 

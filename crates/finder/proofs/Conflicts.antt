@@ -1,28 +1,24 @@
 -- A conflict forbids only what it may, and each new one forbids a full set that was still allowed. Assumes nothing.
 use mathlib.Core.Path.{_≡_, refl, sym, _∙_, ap, subst}
 use mathlib.Core.Logic.{_⊎_, inl, inr}
-use mathlib.Core.List.{List, [], _∷_, _++_}
-use mathlib.Core.Bool.{Bool, true, false, _&&_, _||_, cond}
+use mathlib.Core.List.{List, [], _∷_}
+use mathlib.Core.Bool.{Bool, true, false, cond}
 use mathlib.Core.Option.{Option, none, some, Option·getD}
-use Prim.Native.Nat.{ℕ, zero, suc, _+_, _<_}
-use lib.ListN.{length}
-use Rattle.std.proofs.shelf.Tests.{both-ways, and-parts, and-from, or-left, or-right, cond-true, cond-false}
-use Rattle.chooser.specs.Ways.{lit, every}
-use Rattle.syntax.specs.Values.{Values}
+use Prim.Native.Nat.{ℕ, _+_, _<_}
+use Rattle.std.proofs.shelf.Tests.{both-ways, and-parts, and-from, or-left, or-right, cond-true}
 use Rattle.syntax.specs.Problems.{Problem}
 use Rattle.judging.specs.Held.{goal}
 use Rattle.judging.specs.Paths.{Path, Decision, under}
-use Rattle.judging.specs.Explained.{All, all[], _all∷_}
+use Rattle.judging.specs.Explained.{All, _all∷_}
 use Rattle.judging.specs.Asked.{_∈_, first, later}
-use Rattle.judging.specs.Assignments.{choice, Judged}
 use Rattle.judging.proofs.Asked.{explained-decided}
 use Rattle.judging.proofs.Truth.{false-forbids}
-use Rattle.finder.specs.Tables.{Entry, Table, paths, same-path, opening, width, Tabled}
+use Rattle.finder.specs.Tables.{Entry, Table, width}
 use Rattle.finder.specs.Ways.{Way, case-of, decided}
-use Rattle.finder.specs.Conflicts.{Choice, Conflict, has, add-choice, choices-of, conflict, Full-set, Full, Forbids-set, Allows}
-use Rattle.finder.specs.Invariant.{says, says-all, meets, Fine, Explained, Sound}
+use Rattle.finder.specs.Conflicts.{Choice, has, add-choice, choices-of, Full-set}
+use Rattle.finder.specs.Invariant.{says, says-all, meets, Fine}
 use Rattle.finder.specs.Claims.{Forbids-only, Conflict-explained, New-in-full}
-use Rattle.finder.proofs.Tables.{not-none, same-some, in-cons, same-path-self, entry-of}
+use Rattle.finder.proofs.Tables.{same-some, in-cons, same-path-self, entry-of}
 use Rattle.finder.proofs.Ways.{decided-says, opened-decided}
 use Rattle.finder.proofs.Clauses.{says-opened}
 use Rattle.finder.proofs.Asking.{switched}

@@ -2,14 +2,12 @@
 use mathlib.Core.Path.{_≡_, refl, sym, _∙_, ap}
 use mathlib.Core.List.{List, [], _∷_, _++_}
 use mathlib.Core.Bool.{Bool, true, false, _&&_}
-use Prim.Native.Nat.{ℕ, _+_, _≤_}
+use Prim.Native.Nat.{ℕ, _+_}
 use native.Mathlib.Omega.{arith}
-use lib.ListN.{length}
 use Rattle.chooser.specs.Ways.{lit, some as any}
 use Rattle.chooser.specs.Meaning.{Meaning, Same}
 use Rattle.chooser.specs.Steps.{Grown, Added}
-use Rattle.finder.specs.Ways.{Way}
-use Rattle.finder.specs.Clauses.{all-met, entries, Extended, Extending}
+use Rattle.finder.specs.Clauses.{all-met, Extended, Extending}
 use Rattle.finder.proofs.Clauses.{all-met-join, and-true, entries-join}
 
 and-assoc : (a b c : Bool) → ((a && b) && c) ≡ (a && (b && c))

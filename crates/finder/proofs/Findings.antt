@@ -1,26 +1,25 @@
 -- What a finding says of the goals it was found by, and that an awaited unknown is in the table and not opened. Assumes nothing.
 use mathlib.Core.Path.{_≡_, refl, sym, _∙_, ap, subst}
 use mathlib.Core.Logic.{_⊎_, inl, inr}
-use mathlib.Core.List.{List, [], _∷_}
+use mathlib.Core.List.{List}
 use mathlib.Core.Bool.{Bool, true, false, cond}
 use mathlib.Core.Option.{Option, none, some}
 use Prim.Native.Nat.{ℕ, zero, suc, _+_, _≤_, _<_}
 use native.Mathlib.Omega.{arith}
 use lib.ListN.{length}
 use Rattle.std.proofs.shelf.Tests.{both-ways, cases-order}
-use Rattle.syntax.specs.Problems.{Problem, sig-of, Lawful}
+use Rattle.syntax.specs.Problems.{Problem, sig-of}
 use Rattle.judging.specs.Held.{Helds, goal}
 use Rattle.judging.specs.Judging.{Unknowns, Head, is, waits, judge}
-use Rattle.judging.specs.Paths.{Path, root, child, Decision, under}
+use Rattle.judging.specs.Paths.{Path, root, child, under}
 use Rattle.judging.specs.Asked.{_∈_}
 use Rattle.judging.specs.Reached.{Reached, Exists}
 use Rattle.judging.proofs.Goals.{goal-waits}
 use Rattle.finder.specs.Tables.{Table, paths, opening, Tabled}
 use Rattle.finder.specs.Ways.{Way, decided}
 use Rattle.finder.specs.Findings.{Finding, out-of-steps, false-goal, waiting-goal, all-true, after-waiting, after-goal, finding-from, finding}
-use Rattle.finder.specs.Models.{Judges-true}
-use Rattle.finder.specs.Claims.{Findings-say, Findings-stand, Awaited-in-table}
-use Rattle.finder.proofs.Tables.{not-none, in-table}
+use Rattle.finder.specs.Claims.{Findings-stand, Awaited-in-table}
+use Rattle.finder.proofs.Tables.{not-none}
 use Rattle.finder.proofs.Ways.{decided-says, opened-decided}
 use Rattle.finder.proofs.Typed.{goal-bool}
 

@@ -1,10 +1,10 @@
 -- The invariant stands at the start, and opening an unknown and recording a conflict keep it. Assumes nothing.
 use mathlib.Core.Path.{_≡_, refl, sym, _∙_, ap, subst}
 use mathlib.Core.Logic.{_⊎_, inl, inr}
-use mathlib.Core.List.{List, [], _∷_, _++_}
-use mathlib.Core.Bool.{Bool, true, false, not, _&&_}
-use mathlib.Core.Option.{Option, none, some}
-use Prim.Native.Nat.{ℕ, zero, suc, _+_, _≤_, _<_}
+use mathlib.Core.List.{List, [], _∷_}
+use mathlib.Core.Bool.{Bool, false, not, _&&_}
+use mathlib.Core.Option.{none, some}
+use Prim.Native.Nat.{ℕ, _+_, _≤_, _<_}
 use native.Mathlib.Omega.{arith}
 use lib.ListN.{length, getD}
 use Rattle.std.proofs.shelf.Tests.{and-parts, and-from, not-true, not-from-false}
@@ -15,7 +15,7 @@ use Rattle.finder.specs.Tables.{cases-at, width, arity, Table, paths, opening,
 use Rattle.finder.specs.Ways.{Way, One-case}
 use Rattle.finder.specs.Clauses.{all-met, opening-clauses}
 use Rattle.finder.specs.Conflicts.{Choice, Conflict, conflict-clause}
-use Rattle.finder.specs.Invariant.{says-from, says-all, meets, Fine, Explained, Sound}
+use Rattle.finder.specs.Invariant.{says-from, says-all, meets, Explained, Sound}
 use Rattle.finder.specs.Claims.{Begins-sound, Opening-keeps, Recording-keeps}
 use Rattle.finder.proofs.Tables.{not-none, same-some, in-cons, path-cases, root-not-child, root-of, parent-of, case-in, place-in, ∈-split, ∈-left, ∈-right, distinct-join, opening-join, kids-of-unopened, kids-of-are, are-kids-of, kids-of-distinct, marked-paths, marked-at, marked-off, roots-unopened, roots-are, are-roots, roots-distinct}
 use Rattle.finder.proofs.Clauses.{clauses-one, one-clauses, clause-is}

@@ -3,15 +3,13 @@
 use mathlib.Core.Path.{_≡_, refl, sym, _∙_, ap, subst}
 use mathlib.Core.Logic.{_⊎_, inl, inr}
 use mathlib.Core.List.{List, [], _∷_}
-use mathlib.Core.Bool.{Bool, true, false, _||_, cond}
+use mathlib.Core.Bool.{true, false}
 use mathlib.Core.Option.{Option, none, some, Option·none-ne-some, Option·some-injective}
-use Prim.Native.Nat.{ℕ, zero, suc, _+_, _-_, _≤_, _<_, max}
+use Prim.Native.Nat.{ℕ, zero, suc, _+_, _-_, _≤_, _<_}
 use native.Mathlib.Omega.{arith}
 use lib.ListN.{length, getD}
-use lib.Dec.{eqb, leb, ltb}
 use Rattle.std.proofs.shelf.Tests.{both-ways, cases-lt, or-parts, eq-eqb, cond-true, le-leb, ltb-false}
-use Rattle.chooser.specs.Ways.{lit, every}
-use Rattle.syntax.specs.Typing.{Sig, Declared, constructors, arguments}
+use Rattle.syntax.specs.Typing.{Sig, Declared, arguments}
 use Rattle.syntax.specs.Values.{Value, Values, build, v[], _v∷_, OfType, of-type, OfTypes, of[], _of∷_, depth, deepest}
 use Rattle.syntax.specs.Problems.{Problem, sig-of, Lawful}
 use Rattle.depths.specs.Laws.{Depths}
@@ -19,22 +17,20 @@ use Rattle.depths.proofs.Lawfulness.{lawful-closed}
 use Rattle.judging.specs.Held.{goal}
 use Rattle.judging.specs.Judging.{judge}
 use Rattle.judging.specs.Paths.{Path, root, child, Decision, type-of, under}
-use Rattle.judging.specs.Asked.{_∈_, Asked}
+use Rattle.judging.specs.Asked.{_∈_}
 use Rattle.judging.specs.Reached.{Reached, Exists}
-use Rattle.judging.specs.Assignments.{nth, argument, part, constructor-of, choice, Assigns, Comes-true}
+use Rattle.judging.specs.Assignments.{nth, argument, part, constructor-of, choice}
 use Rattle.judging.proofs.Asked.{only-asked}
 use Rattle.judging.proofs.Reached.{asked-paths}
 use Rattle.judging.proofs.Truth.{true-allows}
-use Rattle.finder.specs.Levels.{Measures, measured, level, reach, fits, any-deeper, too-shallow, Within}
-use Rattle.finder.specs.Tables.{Table, paths, opening, width, arity, Tabled}
+use Rattle.finder.specs.Levels.{Measures, measured, level, any-deeper}
+use Rattle.finder.specs.Tables.{Table, paths, opening, width, Tabled}
 use Rattle.finder.specs.Ways.{Way, decided}
-use Rattle.finder.specs.Asking.{asked}
-use Rattle.finder.specs.Models.{Partial, open-part, built, Partials, o[], _o∷_, Shows, shows-open, shows-built, ShowsAll, s[], _s∷_, Model-of, Completes, anything, as-built, CompletesAll, c[], _c∷_, Filled, nth-partial, argument-partial, part-of, head-of, replayed, Judges-true, Solves}
-use Rattle.finder.specs.Claims.{Model-right, Models-stand}
-use Rattle.finder.proofs.Tables.{same-some, not-none, in-table, declared-root, declared-at}
+use Rattle.finder.specs.Models.{Partial, open-part, built, Partials, o[], _o∷_, Shows, shows-open, shows-built, ShowsAll, s[], _s∷_, Model-of, Completes, anything, as-built, CompletesAll, c[], _c∷_, Filled, nth-partial, argument-partial, part-of, head-of, replayed}
+use Rattle.finder.specs.Claims.{Models-stand}
+use Rattle.finder.proofs.Tables.{same-some, not-none, in-table, declared-root}
 use Rattle.finder.proofs.Ways.{decided-says}
 use Rattle.finder.proofs.Asking.{Denied, asked-denied}
-use Rattle.finder.proofs.Findings.{reached-in-table}
 
 -- what completes partial values has their types
 mutual

@@ -4,7 +4,7 @@ use mathlib.Core.Logic.{_⊎_, inl, inr}
 use mathlib.Core.List.{List, [], _∷_, _++_}
 use mathlib.Core.Bool.{Bool, true, false, _&&_, cond}
 use mathlib.Core.Option.{Option, none, some, Option·none-ne-some, Option·some-injective}
-use Prim.Native.Nat.{ℕ, zero, suc, _+_, _≤_, _<_}
+use Prim.Native.Nat.{ℕ, zero, suc, _+_, _<_}
 use native.Mathlib.Omega.{arith}
 use lib.ListN.{length, getD}
 use lib.Dec.{eqb}
@@ -14,7 +14,7 @@ use Rattle.syntax.specs.Problems.{Problem, sig-of, Each, Lawful}
 use Rattle.depths.proofs.Lawfulness.{lawful-closed}
 use Rattle.judging.specs.Paths.{Path, root, child, type-of}
 use Rattle.judging.specs.Asked.{_∈_, first, later}
-use Rattle.finder.specs.Tables.{cases-at, width, arity, Entry, Table, paths, same-path, opening, closed-entry, roots-from, first-table, marked, kids-from, kids-of, Distinct, apart[], _apart∷_, Tabled}
+use Rattle.finder.specs.Tables.{Entry, Table, paths, same-path, opening, roots-from, marked, kids-from, kids-of, Distinct, apart[], _apart∷_, Tabled}
 
 pub not-none : {A B : Type 0} {a : A} {o : Option A} → o ≡ none → o ≡ some a → B
 not-none {a = a} e f = absurd (Option·none-ne-some a (sym e ∙ f))

@@ -3,15 +3,15 @@
 use mathlib.Core.Path.{_≡_, refl, sym, _∙_, ap, subst}
 use mathlib.Core.List.{List, [], _∷_, _++_, map}
 use mathlib.Core.Option.{Option, none, some}
-use Prim.Native.Nat.{ℕ, zero, suc, _+_, _≤_, _<_}
+use Prim.Native.Nat.{ℕ, zero, suc, _+_, _<_}
 use native.Mathlib.Omega.{arith}
 use lib.ListN.{length, getD}
 use Rattle.syntax.specs.Terms.{Term, var, unknown, con, call, case, both, not, equal, Terms, t[], _t∷_}
-use Rattle.syntax.specs.Typing.{Sig, cases-of, constructors, arguments, no-profile, params-of, result-of, want, each-of, branches-of, Typed, AllTyped}
+use Rattle.syntax.specs.Typing.{Sig, cases-of, constructors, arguments, params-of, result-of, each-of, branches-of, Typed, AllTyped}
 use Rattle.syntax.specs.Problems.{Function, Problem, sig-of, Lawful, Lawful-function, Lawful-goal}
 use Rattle.judging.specs.Held.{Held, hold, free, Helds, h[], _h∷_, missing, branch, no-function, body-of, bound, holds, frees, _h++_, goal}
-use Rattle.judging.specs.Judging.{Head, is, waits, Verdict, same, differ, wait, Judging, give, go-on, _then_, step, Asks, of-unknown, join, negation, and-true, and-waits, truth, compared, after-subject, and-right, headed, judges, judge}
-use Rattle.judging.specs.Paths.{Path, root, child, Decision, type-of, children-from, children, under}
+use Rattle.judging.specs.Judging.{Head, is, waits, Verdict, same, differ, wait, Judging, Asks, of-unknown, join, negation, and-true, and-waits, truth, compared, after-subject, and-right, headed, judges, judge}
+use Rattle.judging.specs.Paths.{Path, root, child, Decision, type-of, children-from, under}
 use Rattle.judging.proofs.Runs.{Always, always-out, always-give, always-then, always-step, always-at, On-result}
 use Rattle.finder.proofs.Tables.{each-at}
 

@@ -1,19 +1,18 @@
 -- What a way decides. A way that gives each opened unknown one case passes the test of it, and decides by that case.
 -- Assumes nothing.
-use mathlib.Core.Path.{_≡_, refl, sym, _∙_, ap, subst}
+use mathlib.Core.Path.{_≡_, refl, _∙_, ap, subst}
 use mathlib.Core.Logic.{_⊎_, inl, inr}
 use mathlib.Core.List.{List, [], _∷_}
-use mathlib.Core.Bool.{Bool, true, false, _&&_, cond}
+use mathlib.Core.Bool.{Bool, true, false, cond}
 use mathlib.Core.Option.{Option, none, some, Option·none-ne-some, Option·some-injective}
-use Prim.Native.Nat.{ℕ, zero, suc, _+_, _≤_, _<_}
+use Prim.Native.Nat.{ℕ, zero, suc, _+_, _<_}
 use native.Mathlib.Omega.{arith}
-use lib.Dec.{eqb}
 use Rattle.std.proofs.shelf.Tests.{both-ways, cases-order, and-from, eq-eqb}
 use Rattle.syntax.specs.Problems.{Problem}
 use Rattle.judging.specs.Paths.{Path}
 use Rattle.judging.specs.Asked.{_∈_, first, later}
-use Rattle.finder.specs.Tables.{Entry, Table, paths, opening, width}
-use Rattle.finder.specs.Ways.{Way, One-case, bit, how-many, one-of, decides-all, case-at, case-of, decided}
+use Rattle.finder.specs.Tables.{Entry, Table, opening, width}
+use Rattle.finder.specs.Ways.{Way, bit, how-many, one-of, decides-all, case-at, case-of, decided}
 use Rattle.finder.specs.Conflicts.{Conflict}
 use Rattle.finder.specs.Invariant.{Fine}
 use Rattle.finder.specs.Claims.{Never-foreign}

@@ -1,6 +1,6 @@
 -- What a round finds when it judges the goals in force. Over any type U of unknowns: paths, or numbers of a table.
 -- Assumes nothing.
-use mathlib.Core.List.{List, map}
+use mathlib.Core.List.{List}
 use mathlib.Core.Bool.{Bool, cond}
 use mathlib.Core.Option.{Option, none, some}
 use Prim.Native.Nat.{ℕ, zero, suc}

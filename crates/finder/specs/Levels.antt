@@ -1,7 +1,7 @@
 -- How deep the unknowns lie, and which of them fit a depth. Assumes nothing.
 use mathlib.Core.List.{List, [], _∷_}
-use mathlib.Core.Bool.{Bool, true, false, _||_}
-use Prim.Native.Nat.{ℕ, _+_, _-_, _≤_, _<_}
+use mathlib.Core.Bool.{Bool, false, _||_}
+use Prim.Native.Nat.{ℕ, _+_, _-_, _≤_}
 use lib.Dec.{leb, ltb}
 use Rattle.syntax.specs.Typing.{Sig}
 use Rattle.syntax.specs.Values.{Values, cost, deepest}

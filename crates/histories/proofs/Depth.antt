@@ -1,9 +1,9 @@
 -- The computed least depths and needs of a lawful problem obey the laws of depth, so what the laws give holds of them.
 -- Assumes nothing.
-use mathlib.Core.Path.{_≡_, refl, sym, _∙_, ap, subst}
+use mathlib.Core.Path.{_≡_, subst}
 use mathlib.Core.List.{List}
 use mathlib.Core.Bool.{Bool, true, false, _&&_}
-use Prim.Native.Nat.{ℕ, _+_, _≤_, _<_}
+use Prim.Native.Nat.{ℕ, _<_}
 use native.Mathlib.Omega.{arith}
 use Rattle.chooser.specs.Ways.{lit, every}
 use Rattle.syntax.specs.Typing.{Declared, constructors}
@@ -13,7 +13,7 @@ use Rattle.depths.specs.Laws.{Depths}
 use Rattle.depths.proofs.Lawfulness.{lawful-closed}
 use Rattle.depths.proofs.Leasts.{depths-stand}
 use Rattle.judging.specs.Assignments.{Assigns}
-use Rattle.finder.specs.Levels.{Measures, measures, measured, too-shallow, Within}
+use Rattle.finder.specs.Levels.{measures, measured, too-shallow, Within}
 use Rattle.finder.specs.Tables.{Table, Tabled}
 use Rattle.finder.specs.Ways.{Way, decided}
 use Rattle.finder.specs.Conflicts.{Conflict}

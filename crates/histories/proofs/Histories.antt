@@ -1,9 +1,9 @@
 -- Every history keeps the invariant. Assumes nothing.
-use mathlib.Core.Path.{_≡_, refl, sym, _∙_, ap, subst}
-use mathlib.Core.List.{List, [], _∷_}
-use mathlib.Core.Bool.{Bool, true, false, _&&_}
+use mathlib.Core.Path.{_≡_, refl, sym, _∙_, subst}
+use mathlib.Core.List.{List, []}
+use mathlib.Core.Bool.{Bool, true, false}
 use mathlib.Core.Option.{Option, none, some, Option·none-ne-some, Option·some-injective}
-use Prim.Native.Nat.{ℕ, _+_, _≤_, _<_}
+use Prim.Native.Nat.{ℕ}
 use native.Mathlib.Omega.{arith}
 use lib.ListN.{length}
 use Rattle.std.proofs.shelf.Tests.{and-from}
@@ -11,15 +11,14 @@ use Rattle.chooser.specs.Meaning.{Meaning, Same}
 use Rattle.syntax.specs.Problems.{Problem, Lawful}
 use Rattle.finder.specs.Tables.{first-table}
 use Rattle.finder.specs.Ways.{Way, decided}
-use Rattle.finder.specs.Clauses.{Extended}
 use Rattle.finder.specs.Invariant.{Sound}
 use Rattle.finder.specs.Claims.{Model-right}
 use Rattle.finder.proofs.Invariant.{begins-sound}
 use Rattle.histories.specs.States.{At-hand, Session, State, not-begun, begun, start}
-use Rattle.histories.specs.Rounds.{Outcome, model, none-within, never, foreign, spent-rounds, spent-steps, spent-unknowns, spent-chooser, Answer, Known}
-use Rattle.histories.specs.Calls.{Refusal, Begins, not-new, too-few, begins, with-force, forcing, refused-state, put-refusal, put-in, after-put, give-back-refusal, given-back, after-give-back, Reply, in-hand, after-search, known, Searches, search-refused, search-shallow, search-made}
+use Rattle.histories.specs.Rounds.{Outcome, model, none-within, never, foreign, spent-rounds, spent-steps, spent-unknowns, spent-chooser, Known}
+use Rattle.histories.specs.Calls.{Refusal, Begins, not-new, too-few, begins, with-force, forcing, refused-state, put-refusal, put-in, give-back-refusal, given-back, Reply, after-search, known, Searches, search-refused, search-shallow, search-made}
 use Rattle.histories.specs.Histories.{Event, History, new, any-chooser, begin-accepted, begin-refused, begin-refused-other, put-called, give-back-called, search-called, model-called, chooser-used}
-use Rattle.histories.proofs.Rounds.{Holds, sound-same, Means, Ran, runs-right}
+use Rattle.histories.proofs.Rounds.{Holds, sound-same, Means, runs-right}
 
 abbrev pub Hand-right : Session → Type 0
 Hand-right s =

@@ -1,25 +1,21 @@
 -- Rounds keep the invariant, their counts add up, each recorded conflict is new, and the outcome is right. Assumes nothing.
 use mathlib.Core.Path.{_≡_, refl, sym, _∙_, ap, subst}
 use mathlib.Core.List.{List, [], _∷_, _++_}
-use mathlib.Core.Bool.{Bool, true, false, _&&_}
+use mathlib.Core.Bool.{Bool, false}
 use mathlib.Core.Option.{Option, none, some}
-use Prim.Native.Nat.{ℕ, zero, suc, _+_, _≤_, _<_}
+use Prim.Native.Nat.{ℕ, _+_, _<_}
 use native.Mathlib.Omega.{arith}
 use lib.ListN.{length, length-append}
 use Rattle.std.proofs.shelf.Tests.{both-ways}
-use Rattle.chooser.specs.Ways.{lit, every}
 use Rattle.chooser.specs.Meaning.{Meaning, Same}
 use Rattle.syntax.specs.Values.{Values}
 use Rattle.syntax.specs.Problems.{Problem, sig-of, Lawful}
 use Rattle.judging.specs.Paths.{Path, type-of}
-use Rattle.judging.specs.Asked.{_∈_}
 use Rattle.judging.specs.Assignments.{Assigns}
 use Rattle.finder.specs.Levels.{measures, too-shallow, Within}
 use Rattle.finder.specs.Tables.{Table, opening, width, opened-at, Tabled}
-use Rattle.finder.specs.Ways.{Way, decided}
-use Rattle.finder.specs.Clauses.{all-met, Extended}
+use Rattle.finder.specs.Ways.{decided}
 use Rattle.finder.specs.Conflicts.{Conflict, Full-set, Full, Forbids-set, Allows}
-use Rattle.finder.specs.Asking.{switches, asked}
 use Rattle.finder.specs.Models.{Solves}
 use Rattle.finder.specs.Invariant.{Sound}
 use Rattle.finder.specs.Claims.{Model-right}
@@ -29,7 +25,7 @@ use Rattle.finder.proofs.Invariant.{opening-keeps, recording-keeps}
 use Rattle.finder.proofs.Asking.{asked-switched}
 use Rattle.finder.proofs.Conflicts.{conflict-explained, new-in-full}
 use Rattle.finder.proofs.Findings.{findings-stand, awaited-in-table}
-use Rattle.histories.specs.Rounds.{Outcome, model, none-within, never, foreign, spent-rounds, spent-steps, spent-unknowns, spent-chooser, Answer, closes, Known, Goes-by, conflict-in, Runs, rounds-spent, none-found, never-found, foreign-found, steps-spent, conflict-recorded, conflict-too-long, unknown-opened, unknowns-spent, chooser-spent, model-found}
+use Rattle.histories.specs.Rounds.{Outcome, model, none-within, never, foreign, spent-rounds, spent-steps, spent-unknowns, spent-chooser, Answer, closes, Known, conflict-in, Runs, rounds-spent, none-found, never-found, foreign-found, steps-spent, conflict-recorded, conflict-too-long, unknown-opened, unknowns-spent, chooser-spent, model-found}
 use Rattle.histories.specs.Theorem.{closing-of, Fresh}
 use Rattle.histories.proofs.Depth.{some-constructor, model-right, none-right, never-right}
 

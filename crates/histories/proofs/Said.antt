@@ -1,15 +1,15 @@
 -- The calls of a history say what the state is. Assumes nothing.
-use mathlib.Core.Path.{_≡_, refl, sym, _∙_, ap, subst}
-use mathlib.Core.List.{List, [], _∷_}
+use mathlib.Core.Path.{_≡_, refl, ap, subst}
+use mathlib.Core.List.{List, _∷_}
 use mathlib.Core.Bool.{Bool, true, false, cond}
 use mathlib.Core.Option.{Option, none, some}
 use Prim.Native.Nat.{ℕ}
 use lib.Dec.{eqb}
 use Rattle.chooser.specs.Meaning.{Meaning}
 use Rattle.syntax.specs.Problems.{Problem}
-use Rattle.histories.specs.States.{At-hand, Session, State, not-begun, begun}
-use Rattle.histories.specs.Rounds.{Outcome, model, none-within, never, foreign, spent-rounds, spent-steps, spent-unknowns, spent-chooser, Answer, Known}
-use Rattle.histories.specs.Calls.{Refusal, Begins, begins, refused-state, put-refusal, put-in, after-put, give-back-refusal, given-back, after-give-back, Reply, refused, answered, in-hand, Searches, search-refused, search-shallow, search-made}
+use Rattle.histories.specs.States.{Session, State, not-begun, begun}
+use Rattle.histories.specs.Rounds.{Outcome, model, none-within, never, foreign, spent-rounds, spent-steps, spent-unknowns, spent-chooser}
+use Rattle.histories.specs.Calls.{Refusal, Begins, begins, refused-state, put-refusal, put-in, after-put, give-back-refusal, given-back, after-give-back, Reply, refused, in-hand, Searches, search-refused, search-shallow, search-made}
 use Rattle.histories.specs.Histories.{Event, began, put, gave-back, searched, modelled, History, new, any-chooser, begin-accepted, begin-refused, begin-refused-other, put-called, give-back-called, search-called, model-called, chooser-used, is-model, some?, Said, Said-of, Calls-say}
 use Rattle.histories.proofs.Histories.{refused-same}
 

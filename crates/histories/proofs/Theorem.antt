@@ -1,10 +1,9 @@
 -- The theorem: what the invariant gives for a search, whatever came before it. Assumes nothing.
-use mathlib.Core.Path.{_≡_, refl, sym, _∙_, ap, subst}
-use mathlib.Core.List.{List, [], _∷_}
-use mathlib.Core.Bool.{Bool, true, false, cond}
-use Prim.Native.Nat.{ℕ, zero, suc, _+_}
+use mathlib.Core.Path.{_≡_, refl, sym, _∙_, subst}
+use mathlib.Core.List.{[]}
+use mathlib.Core.Bool.{Bool, true, false}
+use Prim.Native.Nat.{ℕ, _+_}
 use native.Mathlib.Omega.{arith}
-use lib.ListN.{length}
 use lib.Dec.{eqb}
 use Rattle.std.proofs.shelf.Tests.{false≢true, eqb-true, cond-true, cond-false}
 use Rattle.syntax.specs.Values.{Values}
@@ -12,20 +11,17 @@ use Rattle.syntax.specs.Problems.{Problem}
 use Rattle.judging.specs.Asked.{_∈_}
 use Rattle.judging.specs.Assignments.{Assigns, Comes-true}
 use Rattle.chooser.specs.Meaning.{Meaning}
-use Rattle.finder.specs.Levels.{Within}
 use Rattle.finder.specs.Tables.{Table}
-use Rattle.finder.specs.Ways.{Way}
 use Rattle.finder.specs.Conflicts.{Conflict, Forbids}
-use Rattle.finder.specs.Models.{Solves}
 use Rattle.finder.proofs.Conflicts.{forbids-only}
-use Rattle.histories.specs.States.{At-hand, Session, State, not-begun, begun}
+use Rattle.histories.specs.States.{Session, State}
 use Rattle.histories.specs.Rounds.{Outcome, model, none-within, never, foreign, spent-rounds, spent-steps, spent-unknowns, spent-chooser, Answer, Known}
-use Rattle.histories.specs.Calls.{Reply, refused, answered, known, Searches, search-refused, search-shallow, search-made}
-use Rattle.histories.specs.Histories.{Event, History, is-model}
-use Rattle.histories.specs.Theorem.{finishes, stopped, closing-of, closing, Solvable, Right, Claims, Nothing-overlooked, Model-at-hand}
+use Rattle.histories.specs.Calls.{Reply, known, Searches, search-refused, search-shallow, search-made}
+use Rattle.histories.specs.Histories.{is-model}
+use Rattle.histories.specs.Theorem.{finishes, stopped, closing-of, closing, Solvable, Claims, Nothing-overlooked, Model-at-hand}
 use Rattle.histories.proofs.Depth.{shallow-right}
-use Rattle.histories.proofs.Rounds.{Holds, Means, Ran, runs-right}
-use Rattle.histories.proofs.Histories.{Stood, Stands, stands}
+use Rattle.histories.proofs.Rounds.{Holds, Means, runs-right}
+use Rattle.histories.proofs.Histories.{Stands, stands}
 
 module _ (p : Problem) (force : ℕ → Bool) (n steps : ℕ) (T : Table) where
   it-finishes : (o : Outcome) → Means p force n steps T o → stopped o ≡ false → finishes o ≡ true
@@ -92,8 +88,10 @@ claims (search-refused e same) q = refl
 claims {n} {M = M} (search-shallow {s = s} e shallow same) q =
     record {
       finished = λ f. refl;
-      solved = λ f m. absurd (false≢true m);
-      answers-model = λ f z. absurd (shallow-right (s .problem) (q .lawful) n shallow (z .0) (z .1) (z .2));
+      exactly = λ f. (
+        (λ m. absurd (false≢true m)),
+        λ z. absurd (shallow-right (s .problem) (q .lawful) n shallow (z .0) (z .1) (z .2)),
+      );
       modelled = λ w f. absurd (subst Is-none f tt);
       never-any = λ f. absurd (subst Is-none f tt);
       on-record = on-record s (known s) M (q .holds);
@@ -109,8 +107,10 @@ claims {n} {steps = steps} {M′ = M′} (search-made {s = s} {X = X} {a = a} e 
     let z = closing-same a c in
     record {
       finished = it-finishes (s .problem) (s .force) n steps (X .table) (a .outcome) (r .means);
-      solved = λ f. it-solves (s .problem) (s .force) n steps (X .table) (a .outcome) (r .means);
-      answers-model = it-models (s .problem) (s .force) n steps (X .table) (a .outcome) (r .means);
+      exactly = λ f. (
+        it-solves (s .problem) (s .force) n steps (X .table) (a .outcome) (r .means),
+        it-models (s .problem) (s .force) n steps (X .table) (a .outcome) (r .means) f,
+      );
       modelled = λ w f. subst (Means (s .problem) (s .force) n steps (X .table)) f (r .means);
       never-any = λ f n′ y. subst (Means (s .problem) (s .force) n steps (X .table)) f (r .means) (y .0) (y .1) (y .3);
       on-record = on-record s X M′ (r .holds);

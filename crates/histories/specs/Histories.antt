@@ -8,7 +8,7 @@ use lib.Dec.{eqb}
 use Rattle.chooser.specs.Meaning.{Meaning, Same}
 use Rattle.syntax.specs.Problems.{Problem}
 use Rattle.histories.specs.States.{At-hand, Session, State, not-begun, begun}
-use Rattle.histories.specs.Rounds.{Outcome, model, none-within, never, foreign, spent-rounds, spent-steps, spent-unknowns, spent-chooser, Answer}
+use Rattle.histories.specs.Rounds.{Outcome, model, none-within, never, foreign, spent-rounds, spent-steps, spent-unknowns, spent-chooser}
 use Rattle.histories.specs.Calls.{Refusal, Begins, put-refusal, after-put, give-back-refusal, after-give-back, model-refusal, Reply, refused, answered, Searches}
 
 -- a call, with what it was given and what it answered

@@ -3,7 +3,7 @@
 use mathlib.Core.Path.{_≡_}
 use mathlib.Core.List.{List, [], _∷_, _++_}
 use mathlib.Core.Bool.{Bool, true, false, cond}
-use mathlib.Core.Option.{Option, none, some}
+use mathlib.Core.Option.{some}
 use Prim.Native.Nat.{ℕ, _+_}
 use lib.ListN.{length}
 use lib.Dec.{eqb}
@@ -73,8 +73,8 @@ pub record Right (n steps : ℕ) (s : Session) (a : Answer) (s′ : Session) : T
   -- one that no count stops finishes
   pub finished : stopped (a .outcome) ≡ false → finishes (a .outcome) ≡ true
   -- one that finishes answers MODEL exactly when there is such an assignment no deeper than n
-  pub solved : finishes (a .outcome) ≡ true → is-model (a .outcome) ≡ true → Solvable (s .problem) (s .force) n
-  pub answers-model : finishes (a .outcome) ≡ true → Solvable (s .problem) (s .force) n → is-model (a .outcome) ≡ true
+  pub exactly : finishes (a .outcome) ≡ true
+      → (is-model (a .outcome) ≡ true → Solvable (s .problem) (s .force) n) × (Solvable (s .problem) (s .force) n → is-model (a .outcome) ≡ true)
   -- its model is such an assignment, however its open parts are filled within n
   pub modelled : (w : Way) → a .outcome ≡ model w
       → Model-right (s .problem) (decided (s .problem) (s′ .table) w) n (s .force) steps

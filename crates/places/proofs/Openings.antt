@@ -3,8 +3,8 @@
 use mathlib.Core.Path.{_≡_, refl, sym, _∙_, ap, subst}
 use mathlib.Core.Logic.{_⊎_, inl, inr}
 use mathlib.Core.List.{List, [], _∷_, _++_}
-use mathlib.Core.Bool.{Bool, true, false, cond}
-use mathlib.Core.Option.{Option, none, some}
+use mathlib.Core.Bool.{true, cond}
+use mathlib.Core.Option.{none, some}
 use Prim.Native.Nat.{ℕ, zero, suc, _+_, _-_, _≤_, _<_}
 use native.Mathlib.Omega.{arith}
 use lib.ListN.{length, getD, List·getD-append, length-append}
@@ -14,8 +14,8 @@ use Rattle.std.proofs.shelf.Tests.{cases-lt, cases-eq, cond-true, cond-false, e
 use Rattle.syntax.specs.Problems.{Problem}
 use Rattle.judging.specs.Paths.{Path, root, child}
 use Rattle.judging.specs.Asked.{_∈_, first, later}
-use Rattle.finder.specs.Tables.{cases-at, width, arity, Entry, Table, paths, same-path, opening, closed-entry, roots-from, first-table, marked, kids-from, kids-of, opened-at, Distinct, apart[], _apart∷_, Tabled}
-use Rattle.finder.proofs.Tables.{not-none, in-table, opening-entry, path-cases, same-path-self, same-path-not, opening-join, kids-of-unopened, kids-of-are, marked-paths, marked-off, roots-unopened}
+use Rattle.finder.specs.Tables.{cases-at, width, arity, Entry, Table, paths, same-path, opening, closed-entry, roots-from, marked, kids-from, kids-of, opened-at, Distinct, _apart∷_, Tabled}
+use Rattle.finder.proofs.Tables.{not-none, in-table, path-cases, same-path-self, same-path-not, opening-join, kids-of-unopened, kids-of-are, marked-paths, marked-off, roots-unopened}
 use Rattle.places.specs.Places.{at, entry-at, offset, births, Placed, Appends}
 use Rattle.places.specs.Claims.{Begins-placed, Opening-places}
 

@@ -6,23 +6,23 @@ use mathlib.Core.Bool.{Bool, true, false, _||_, cond}
 use mathlib.Core.Option.{Option, none, some, Option·none-ne-some}
 use Prim.Native.Nat.{ℕ, zero, suc, _+_, _≤_, _<_}
 use native.Mathlib.Omega.{arith}
-use lib.ListN.{length, getD}
+use lib.ListN.{length}
 use lib.Dec.{eqb}
 use Rattle.std.proofs.shelf.Tests.{cases-lt, cases-eq, eq-eqb, ne-eqb}
-use Rattle.syntax.specs.Problems.{Problem, sig-of, Lawful}
-use Rattle.judging.specs.Held.{Helds, goal}
+use Rattle.syntax.specs.Problems.{Problem}
+use Rattle.judging.specs.Held.{goal}
 use Rattle.judging.specs.Judging.{Unknowns, Head, is, waits, judge}
 use Rattle.judging.specs.Paths.{Path, root, child, Decision, children-from, under}
 use Rattle.judging.specs.Explained.{All, all[], _all∷_}
-use Rattle.judging.specs.Asked.{_∈_, first, later, Asked, asked-root, asked-kid, Decided}
+use Rattle.judging.specs.Asked.{_∈_, first, later, Asked, asked-root, asked-kid}
 use Rattle.judging.specs.Names.{named-head, result, Names}
 use Rattle.judging.proofs.Asked.{goal-asked}
 use Rattle.judging.proofs.Names.{by-names}
 use Rattle.finder.specs.Tables.{cases-at, width, arity, Entry, Table, paths, same-path, opening, closed-entry, Tabled}
 use Rattle.finder.specs.Ways.{Way, case-of, decided}
 use Rattle.finder.specs.Clauses.{off}
-use Rattle.finder.specs.Conflicts.{Choice, has, add-choice, choices-of, conflict, differs, some-differs, conflict-clause}
-use Rattle.finder.specs.Findings.{Finding, out-of-steps, false-goal, waiting-goal, all-true, after-waiting, after-goal, finding-from, finding}
+use Rattle.finder.specs.Conflicts.{Choice, has, add-choice, choices-of, differs, some-differs}
+use Rattle.finder.specs.Findings.{Finding, out-of-steps, false-goal, waiting-goal, all-true, after-waiting, after-goal, finding-from}
 use Rattle.finder.proofs.Tables.{in-cons, same-path-self, same-path-not, opening-entry}
 use Rattle.finder.proofs.Ways.{decided-says}
 use Rattle.finder.proofs.Conflicts.{choices-are}

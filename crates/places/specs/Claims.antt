@@ -1,16 +1,14 @@
 -- What is claimed of places: judging by places is judging by the paths that they name, and openings keep the places right.
 -- Assumes nothing.
 use mathlib.Core.Path.{_≡_}
-use mathlib.Core.List.{List, [], _∷_, map}
+use mathlib.Core.List.{List, _∷_, map}
 use mathlib.Core.Bool.{Bool, cond}
-use mathlib.Core.Option.{none, some}
+use mathlib.Core.Option.{none}
 use Prim.Native.Nat.{ℕ, _<_}
 use lib.ListN.{length}
 use lib.Dec.{eqb}
 use Rattle.syntax.specs.Problems.{Problem, Lawful}
-use Rattle.judging.specs.Held.{Helds, goal}
-use Rattle.judging.specs.Judging.{is, judge}
-use Rattle.judging.specs.Paths.{Path, under}
+use Rattle.judging.specs.Paths.{under}
 use Rattle.judging.specs.Names.{Names}
 use Rattle.finder.specs.Tables.{Table, opening, first-table, opened-at, Tabled}
 use Rattle.finder.specs.Ways.{Way, decided}
