@@ -71,15 +71,18 @@ module _ (P : Problem) (δ : Decision) (R : Path → Type 0) where
       of : Within B (free u) → All R (u ∷ []) → All B (u ∷ []) × Withins B (frees (children (sig-of P) u c))
       of (w-free w) (p all∷ q) = (w all∷ all[], in-children u c 0 _ p e)
 
-  of-root-closed : (k : ℕ) (ρ : Helds Path) (o : Option ℕ) → δ (root k) ≡ o → Head-closed (hold (unknown k) ρ) (of-unknown (under P δ) (root k) o)
+  of-root-closed : (k : ℕ) (ρ : Helds Path) (o : Option ℕ) → δ (root k) ≡ o
+      → Head-closed (hold (unknown k) ρ) (of-unknown (under P δ) (root k) o)
   of-root-closed k ρ none e = tt
   of-root-closed k ρ (some c) e = of
     where
-      of : Within B (hold (unknown k) ρ) → All R (root k ∷ []) → All B (root k ∷ []) × Withins B (frees (children (sig-of P) (root k) c))
+      of : Within B (hold (unknown k) ρ) → All R (root k ∷ [])
+          → All B (root k ∷ []) × Withins B (frees (children (sig-of P) (root k) c))
       of w (p all∷ q) = (tt all∷ all[], in-children (root k) c 0 _ p e)
 
   module _ (A : Asks Path) (S : Asks-closed A) where
-    after-same-closed : (x y : Held Path) (xs ys : Helds Path) (E : List Path) → Verdict-closed x y (same E) → (v : Verdict Path) → Pairs-closed xs ys v
+    after-same-closed : (x y : Held Path) (xs ys : Helds Path) (E : List Path) → Verdict-closed x y (same E)
+        → (v : Verdict Path) → Pairs-closed xs ys v
         → Pairs-closed (x h∷ xs) (y h∷ ys) (after-same E v)
     after-same-closed x y xs ys E p (same F) q = of
       where
@@ -100,7 +103,8 @@ module _ (P : Problem) (δ : Decision) (R : Path → Type 0) where
         of (v w∷ vs) (w w∷ ws) r = q vs ws r
     after-wait-closed x y xs ys u (wait v) q = tt
 
-    after-pair-closed : (x y : Held Path) (xs ys : Helds Path) (rest : Judging (Verdict Path)) → Always rest (Pairs-closed xs ys) → (v : Verdict Path)
+    after-pair-closed : (x y : Held Path) (xs ys : Helds Path) (rest : Judging (Verdict Path))
+        → Always rest (Pairs-closed xs ys) → (v : Verdict Path)
         → Verdict-closed x y v → Always (after-pair rest v) (Pairs-closed (x h∷ xs) (y h∷ ys))
     after-pair-closed x y xs ys rest k (same E) p = always-then k (λ v q. always-give (after-same-closed x y xs ys E p v q))
     after-pair-closed x y xs ys rest k (differ E) p = always-give of
@@ -115,21 +119,24 @@ module _ (P : Problem) (δ : Decision) (R : Path → Type 0) where
     pairs-closed (x h∷ xs) (y h∷ ys) =
         always-then (S .comparings x y) (after-pair-closed x y xs ys (pairs A xs ys) (pairs-closed xs ys))
 
-    heads-closed : (l r : Held Path) (c d : ℕ) (xs ys : Helds Path) (E F : List Path) → Head-closed l (is c xs E) → Head-closed r (is d ys F)
+    heads-closed : (l r : Held Path) (c d : ℕ) (xs ys : Helds Path) (E F : List Path) → Head-closed l (is c xs E)
+        → Head-closed r (is d ys F)
         → Within B l → Within B r → All R (E ++ F) → All B (E ++ F) × Withins B xs × Withins B ys
     heads-closed l r c d xs ys E F p q v w k =
         let a = p v (all-left E F k) in
         let b = q w (all-right E F k) in
         (all-join (a .0) (b .0), a .1, b .1)
 
-    joined-closed : (l r : Held Path) (c d : ℕ) (xs ys : Helds Path) (E F G : List Path) → Head-closed l (is c xs E) → Head-closed r (is d ys F)
+    joined-closed : (l r : Held Path) (c d : ℕ) (xs ys : Helds Path) (E F G : List Path) → Head-closed l (is c xs E)
+        → Head-closed r (is d ys F)
         → (Withins B xs → Withins B ys → All R G → All B G)
         → Within B l → Within B r → All R ((E ++ F) ++ G) → All B ((E ++ F) ++ G)
     joined-closed l r c d xs ys E F G p q g v w k =
         let a = heads-closed l r c d xs ys E F p q v w (all-left (E ++ F) G k) in
         all-join (a .0) (g (a .1) (a .2) (all-right (E ++ F) G k))
 
-    join-verdict-closed : (l r : Held Path) (c d : ℕ) (xs ys : Helds Path) (E F : List Path) → Head-closed l (is c xs E) → Head-closed r (is d ys F)
+    join-verdict-closed : (l r : Held Path) (c d : ℕ) (xs ys : Helds Path) (E F : List Path) → Head-closed l (is c xs E)
+        → Head-closed r (is d ys F)
         → (v : Verdict Path) → Pairs-closed xs ys v → Verdict-closed l r (join-verdict (E ++ F) v)
     join-verdict-closed l r c d xs ys E F p q (same G) g = joined-closed l r c d xs ys E F G p q g
     join-verdict-closed l r c d xs ys E F p q (differ G) g = joined-closed l r c d xs ys E F G p q g
@@ -167,7 +174,8 @@ module _ (P : Problem) (δ : Decision) (R : Path → Type 0) where
         joined (waits u) q = tt
     after-subject-closed T t bs ρ (waits u) p = always-give tt
 
-    and-true-closed : (a b : Term) (ρ : Helds Path) (c : ℕ) (xs : Helds Path) (E : List Path) → Head-closed (hold a ρ) (is (suc c) xs E)
+    and-true-closed : (a b : Term) (ρ : Helds Path) (c : ℕ) (xs : Helds Path) (E : List Path)
+        → Head-closed (hold a ρ) (is (suc c) xs E)
         → (r : Head Path) → Head-closed (hold b ρ) r → Head-closed (hold (both a b) ρ) (and-true E r)
     and-true-closed a b ρ c xs E p (is zero ys F) q = λ w k. (q (inner w) k .0, w[])
     and-true-closed a b ρ c xs E p (is (suc d) ys F) q =
@@ -186,7 +194,8 @@ module _ (P : Problem) (δ : Decision) (R : Path → Type 0) where
     and-right-closed a b ρ right k (is (suc c) xs E) p = always-then k (λ r q. always-give (and-true-closed a b ρ c xs E p r q))
     and-right-closed a b ρ right k (waits u) p = always-then k (λ r q. always-give (and-waits-closed a b ρ u r q))
 
-    negation-closed : (t : Term) (ρ : Helds Path) (r : Head Path) → Head-closed (hold t ρ) r → Head-closed (hold (not t) ρ) (negation r)
+    negation-closed : (t : Term) (ρ : Helds Path) (r : Head Path) → Head-closed (hold t ρ) r
+        → Head-closed (hold (not t) ρ) (negation r)
     negation-closed t ρ (is zero xs E) p = λ w k. (p (inner w) k .0, w[])
     negation-closed t ρ (is (suc c) xs E) p = λ w k. (p (inner w) k .0, w[])
     negation-closed t ρ (waits u) p = tt

@@ -7,7 +7,7 @@ use Rattle.syntax.specs.Terms.{unknown, con, case, t[], _t∷_}
 use Rattle.judging.specs.Held.{Held, hold, Helds, h[], goal}
 use Rattle.judging.specs.Judging.{go-on, give, join, and-right, judges}
 use Rattle.judging.specs.Paths.{Path, root, Decision, under}
-use Rattle.judging.specs.Examples.{Nine-steps, Right-asked, loops, loop, Right-alone, true-at-root, Left-for-ever, Next-variables, Past-waiting, Examples}
+use Rattle.judging.specs.Examples.{Nine-steps, Right-asked, loops, loop, And-rules, true-at-root, Left-for-ever, Case-rules, Pair-rules, Examples}
 
 nine-steps : Nine-steps
 unfolding judges
@@ -17,17 +17,17 @@ right-asked : Right-asked
 unfolding judges
 right-asked = (refl, refl)
 
-right-alone : Right-alone
+and-rules : And-rules
 unfolding judges
-right-alone = refl
+and-rules = (refl, refl, refl, refl, refl, refl, refl)
 
-next-variables : Next-variables
+case-rules : Case-rules
 unfolding judges
-next-variables = refl
+case-rules = (refl, refl, refl)
 
-past-waiting : Past-waiting
+pair-rules : Pair-rules
 unfolding judges
-past-waiting = (refl, refl)
+pair-rules = (refl, refl, refl, refl, refl, refl)
 
 loops-at : (δ : Decision) (n s : ℕ) (ρ : Helds Path) → judges loops (under loops δ) n .head (hold loop ρ) s ≡ none
 unfolding judges
@@ -57,4 +57,4 @@ unfolding judges
 left-for-ever = (refl, λ s. both-at s s)
 
 pub examples : Examples
-examples = (nine-steps, right-asked, λ δ s. loops-at δ s s h[], right-alone, left-for-ever, next-variables, past-waiting)
+examples = (nine-steps, right-asked, λ δ s. loops-at δ s s h[], and-rules, left-for-ever, case-rules, pair-rules)

@@ -69,13 +69,15 @@ reached-only-compare P δ ε l r v w agree s =
 
 pub stays-reached : Stays-reached
 stays-reached P δ h s left c xs E w e =
-    let q = head-facts P (under P δ) (under P δ) Any (Reached δ) own (reached-naming P δ δ (λ u g. refl)) h h (within-like w) s left (is c xs E) e .2 in
+    let q = head-facts P (under P δ) (under P δ) Any (Reached δ) own (reached-naming P δ δ (λ u g. refl)) h h (within-like w)
+    s left (is c xs E) e .2 in
     (all-map (λ u x. x .0) (head-explanation own q), likes-withins (head-arguments own q .1))
 
 pub waits-on-reached : Waits-on-reached
 waits-on-reached P δ h s left u w e =
     head-awaits own
-    (head-facts P (under P δ) (under P δ) Any (Reached δ) own (reached-naming P δ δ (λ u g. refl)) h h (within-like w) s left (waits u) e .2) .0
+    (head-facts P (under P δ) (under P δ) Any (Reached δ) own (reached-naming P δ δ (λ u g. refl)) h h (within-like w)
+    s left (waits u) e .2) .0
 
 says-so : (o : Option ℕ) (c : ℕ) → o ≡ some c → says o c ≡ true
 says-so none c e = absurd (Option·none-ne-some c e)

@@ -105,7 +105,8 @@ module _ {U : Type 0} (P : Problem) (K : Unknowns U) where
       rw (suc-add n k)
       record {
         heads = λ h g p. deep-step n
-            (headed-run Any R D W (deeply n) (judges P K n) (judges P K (n + k)) (judges-deep n k) P K K (matching P K K Any Any own (alone P K)) p);
+            (headed-run Any R D W (deeply n) (judges P K n) (judges P K (n + k)) (judges-deep n k) P K K
+            (matching P K K Any Any own (alone P K)) p);
         comparings = λ l r g j p q. deep-step n
             (compared-run Any R D W (deeply n) (judges P K n) (judges P K (n + k)) (judges-deep n k) p q);
       }
@@ -129,7 +130,8 @@ module _ {U : Type 0} (P : Problem) (K : Unknowns U) where
   unfolds h zero = refl
   unfolds h (suc s) =
       deep-equal s head-same
-      (headed-run Any R D W (deeply s) (itself P K) (judges P K s) (itself-deep s) P K K (matching P K K Any Any own (alone P K)) (like-own h))
+      (headed-run Any R D W (deeply s) (itself P K) (judges P K s) (itself-deep s) P K K
+      (matching P K K Any Any own (alone P K)) (like-own h))
       s (le-refl s)
 
   unfolds-compare : (l r : Held U) (s : ℕ) → compare P K l r s ≡ step (compared (itself P K) l r) s

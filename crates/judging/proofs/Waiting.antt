@@ -50,14 +50,16 @@ module _ {U : Type 0} (P : Problem) (K : Unknowns U) where
   from-var : {v c : ℕ} {ρ xs : Helds U} → Yields P K (hold (var v) ρ) c xs → Yields P K (bound ρ v) c xs
   from-var (y-var p) = p
 
-  from-call : {f c : ℕ} {ts : Terms} {ρ xs : Helds U} → Yields P K (hold (call f ts) ρ) c xs → Yields P K (hold (body-of P f) (holds ts ρ)) c xs
+  from-call : {f c : ℕ} {ts : Terms} {ρ xs : Helds U} → Yields P K (hold (call f ts) ρ) c xs
+      → Yields P K (hold (body-of P f) (holds ts ρ)) c xs
   from-call (y-call p) = p
 
   from-case : {T d : ℕ} {t : Term} {bs : Terms} {ρ ys : Helds U} → Yields P K (hold (case T t bs) ρ) d ys
       → (c : ℕ) × (xs : Helds U) × Yields P K (hold t ρ) c xs × Yields P K (hold (branch bs c) (ρ h++ xs)) d ys
   from-case (y-case {c = c} {xs = xs} p q) = (c, xs, p, q)
 
-  from-not : {t : Term} {c : ℕ} {ρ xs : Helds U} → Yields P K (hold (not t) ρ) c xs → (d : ℕ) × (ys : Helds U) × Yields P K (hold t ρ) d ys
+  from-not : {t : Term} {c : ℕ} {ρ xs : Helds U} → Yields P K (hold (not t) ρ) c xs
+      → (d : ℕ) × (ys : Helds U) × Yields P K (hold t ρ) d ys
   from-not (y-not-false {xs = xs} p) = (0, xs, p)
   from-not (y-not-true {c = c} {xs = xs} p) = (suc c, xs, p)
 
@@ -87,10 +89,12 @@ module _ {U : Type 0} (P : Problem) (K : Unknowns U) where
   differ-right n (d-head {d = d} {ys = ys} p q k) = n d ys q
   differ-right n (d-pair {c = c} {ys = ys} p q k) = n c ys q
 
-  same-pairs : {l r : Held U} {c d : ℕ} {xs ys : Helds U} → Yields P K l c xs → Yields P K r d ys → (SameAll P K xs ys → ⊥) → Same P K l r → ⊥
+  same-pairs : {l r : Held U} {c d : ℕ} {xs ys : Helds U} → Yields P K l c xs → Yields P K r d ys → (SameAll P K xs ys → ⊥)
+      → Same P K l r → ⊥
   same-pairs p q n (s-same p′ q′ a) = n (subst₂ (λ xs ys. SameAll P K xs ys) (one-head P K p′ p .1) (one-head P K q′ q .1) a)
 
-  differ-pairs : {l r : Held U} {c : ℕ} {xs ys : Helds U} → Yields P K l c xs → Yields P K r c ys → (SomeDiffer P K xs ys → ⊥) → Differs P K l r
+  differ-pairs : {l r : Held U} {c : ℕ} {xs ys : Helds U} → Yields P K l c xs → Yields P K r c ys → (SomeDiffer P K xs ys
+      → ⊥) → Differs P K l r
       → ⊥
   differ-pairs p q n (d-head p′ q′ k) = k (one-head P K p′ p .0 ∙ sym (one-head P K q′ q .0))
   differ-pairs p q n (d-pair p′ q′ a) = n (subst₂ (λ xs ys. SomeDiffer P K xs ys) (one-head P K p′ p .1) (one-head P K q′ q .1) a)
@@ -101,7 +105,8 @@ module _ {U : Type 0} (P : Problem) (K : Unknowns U) where
   rest-same : {x y : Held U} {xs ys : Helds U} → SameAll P K (x h∷ xs) (y h∷ ys) → SameAll P K xs ys
   rest-same (s-pair p q) = q
 
-  some-differ : {x y : Held U} {xs ys : Helds U} → (Differs P K x y → ⊥) → (SomeDiffer P K xs ys → ⊥) → SomeDiffer P K (x h∷ xs) (y h∷ ys) → ⊥
+  some-differ : {x y : Held U} {xs ys : Helds U} → (Differs P K x y → ⊥) → (SomeDiffer P K xs ys → ⊥)
+      → SomeDiffer P K (x h∷ xs) (y h∷ ys) → ⊥
   some-differ f g (d-here p) = f p
   some-differ f g (d-later p) = g p
 
@@ -120,7 +125,8 @@ module _ {U : Type 0} (P : Problem) (K : Unknowns U) where
   after-same-true x y xs ys E p (differ F) q = d-later q
   after-same-true x y xs ys E p (wait u) q = (λ a. q .0 (rest-same a), some-differ (same-differ P K p) (q .1))
 
-  after-wait-true : (x y : Held U) (xs ys : Helds U) (u : U) → (Same P K x y → ⊥) × (Differs P K x y → ⊥) → (v : Verdict U) → Pairs-true xs ys v
+  after-wait-true : (x y : Held U) (xs ys : Helds U) (u : U) → (Same P K x y → ⊥) × (Differs P K x y → ⊥) → (v : Verdict U)
+      → Pairs-true xs ys v
       → Pairs-true (x h∷ xs) (y h∷ ys) (after-wait u v)
   after-wait-true x y xs ys u p (same F) q = (λ a. p .0 (first-same a), some-differ (p .1) (same-differ-all P K q))
   after-wait-true x y xs ys u p (differ F) q = d-later q

@@ -2,14 +2,14 @@
 -- Assumes nothing.
 use mathlib.Core.Path.{_≡_}
 use mathlib.Core.List.{[], _∷_}
-use mathlib.Core.Option.{none, some}
+use mathlib.Core.Option.{Option, none, some}
 use Prim.Native.Nat.{ℕ, zero, suc}
 use Rattle.syntax.specs.Terms.{Term, unknown, con, call, case, both, equal, t[], _t∷_, var}
 use Rattle.syntax.specs.Values.{Values, build, v[], _v∷_}
 use Rattle.syntax.specs.Problems.{Problem}
-use Rattle.judging.specs.Held.{h[], _h∷_, hold, goal}
+use Rattle.judging.specs.Held.{Held, h[], _h∷_, hold, free, goal}
 use Rattle.judging.specs.Judging.{is, waits, judge}
-use Rattle.judging.specs.Paths.{root, child, Decision, under}
+use Rattle.judging.specs.Paths.{Path, root, child, Decision, under}
 use Rattle.judging.specs.Assignments.{choice}
 
 abbrev pub undecided : Decision
@@ -64,15 +64,24 @@ loops =
 abbrev pub Loops : Type 0
 Loops = (δ : Decision) (s : ℕ) → judge loops (under loops δ) (goal loops 0) s ≡ none
 
-abbrev pub right-false : Decision
-right-false (root zero) = none
-right-false (root (suc zero)) = some 0
-right-false (root (suc (suc k))) = none
-right-false (child u c j) = none
+-- unknowns 0 and 1 as given, and no others decided
+abbrev pub deciding-two : Option ℕ → Option ℕ → Decision
+deciding-two a b (root zero) = a
+deciding-two a b (root (suc zero)) = b
+deciding-two a b (root (suc (suc k))) = none
+deciding-two a b (child u c j) = none
 
--- the left side waits, the right one is false: false, with right's explanation alone
-abbrev pub Right-alone : Type 0
-Right-alone = judge loops (under loops right-false) (goal loops 1) 3 ≡ some (is 0 h[] (root 1 ∷ []), 0)
+-- unknown 0 and unknown 1: left's false is the answer, and right is not asked; right's false has right's explanation alone, where
+-- left is true and where it waits; two trues join; else left's unknown is waited on if left waits
+abbrev pub And-rules : Type 0
+And-rules =
+    (judge loops (under loops (deciding-two (some 0) none)) (goal loops 1) 2 ≡ some (is 0 h[] (root 0 ∷ []), 0))
+    × (judge loops (under loops (deciding-two (some 1) (some 0))) (goal loops 1) 3 ≡ some (is 0 h[] (root 1 ∷ []), 0))
+    × (judge loops (under loops (deciding-two none (some 0))) (goal loops 1) 3 ≡ some (is 0 h[] (root 1 ∷ []), 0))
+    × (judge loops (under loops (deciding-two (some 1) (some 1))) (goal loops 1) 3 ≡ some (is 1 h[] (root 0 ∷ (root 1 ∷ [])), 0))
+    × (judge loops (under loops (deciding-two (some 1) none)) (goal loops 1) 3 ≡ some (waits (root 1), 0))
+    × (judge loops (under loops (deciding-two none (some 1))) (goal loops 1) 3 ≡ some (waits (root 0), 0))
+    × (judge loops (under loops undecided) (goal loops 1) 3 ≡ some (waits (root 0), 0))
 
 abbrev pub true-at-root : Decision
 true-at-root (root k) = some 1
@@ -84,25 +93,32 @@ Left-for-ever =
     (judge loops (under loops undecided) (goal loops 2) 4 ≡ some (is 0 h[] [], 0))
     × ((s : ℕ) → judge loops (under loops true-at-root) (goal loops 2) s ≡ none)
 
--- A branch's variables are the next after those in scope. The predecessor's parameter is variable 0, and so in the branch of
--- the successor its argument is variable 1.
+-- The predecessor of a natural number. A branch's variables are the next after those in scope: the parameter is variable 0, and so
+-- in the branch of the successor its argument is variable 1.
 abbrev pub predecessor : Problem
 predecessor =
     record {
       types = ([] ∷ ((1 ∷ []) ∷ [])) ∷ [];
       functions =
           record { profile = record { params = 1 ∷ []; result = 1 }; body = case 1 (var 0) (var 0 t∷ var 1 t∷ t[]) } ∷ [];
-      unknowns = [];
+      unknowns = 1 ∷ [];
       goals = [];
     }
 
-abbrev pub Next-variables : Type 0
-Next-variables =
-    judge predecessor (under predecessor undecided) (hold (call 0 (two t∷ t[])) h[]) 6
-    ≡ some (is 1 (hold (con 1 0 t[]) h[] h∷ h[]) [], 0)
+abbrev pub predecessor-of : Term → Held Path
+predecessor-of t = hold (call 0 (t t∷ t[])) h[]
 
--- Pairs of natural numbers (type 2), and goals that a pair with an unknown first is another, which the second tells apart, and
--- that it is one which the second does not tell apart.
+-- of 2 it is 1; of the unknown, with 2 assigned to it, it is explained by the subject and the branch; it waits if its subject does
+abbrev pub Case-rules : Type 0
+Case-rules =
+    (judge predecessor (under predecessor undecided) (predecessor-of two) 6
+    ≡ some (is 1 (hold (con 1 0 t[]) h[] h∷ h[]) [], 0))
+    × (judge predecessor (under predecessor (choice twice)) (predecessor-of (unknown 0)) 6
+    ≡ some (is 1 (free (child (child (root 0) 1 0) 1 0) h∷ h[]) (root 0 ∷ (child (root 0) 1 0 ∷ [])), 0))
+    × (judge predecessor (under predecessor undecided) (predecessor-of (unknown 0)) 4 ≡ some (waits (root 0), 0))
+
+-- Pairs of natural numbers (type 2), two unknowns of type 1 and one of type 2, and goals that a pair of the first two is (0, 2)
+-- and that the third is.
 abbrev pub zero-term : Term
 zero-term = con 1 0 t[]
 
@@ -114,17 +130,26 @@ pairings =
     record {
       types = ([] ∷ ((1 ∷ []) ∷ [])) ∷ (((1 ∷ (1 ∷ [])) ∷ []) ∷ []);
       functions = [];
-      unknowns = 1 ∷ [];
-      goals =
-          equal 2 (pair (unknown 0) zero-term) (pair zero-term two)
-          ∷ (equal 2 (pair (unknown 0) zero-term) (pair zero-term zero-term) ∷ []);
+      unknowns = 1 ∷ (1 ∷ (2 ∷ []));
+      goals = equal 2 (pair (unknown 0) (unknown 1)) (pair zero-term two) ∷ (equal 2 (unknown 2) (pair zero-term two) ∷ []);
     }
 
--- Arguments are compared past a waiting pair: a later false one decides, and else the first waiting one is waited on.
-abbrev pub Past-waiting : Type 0
-Past-waiting =
-    (judge pairings (under pairings undecided) (goal pairings 0) 9 ≡ some (is 0 h[] [], 0))
-    × (judge pairings (under pairings undecided) (goal pairings 1) 9 ≡ some (waits (root 0), 0))
+-- the third is decided, and of its arguments only the second, as zero
+abbrev pub third-decided : Decision
+third-decided (root k) = some 0
+third-decided (child u c zero) = none
+third-decided (child u c (suc j)) = some 0
+
+-- Arguments are compared past a waiting pair. A false pair decides, with its own explanation and the two heads', and not that of
+-- the pairs before; else the first waiting pair is waited on.
+abbrev pub Pair-rules : Type 0
+Pair-rules =
+    (judge pairings (under pairings (deciding-two none (some 0))) (goal pairings 0) 9 ≡ some (is 0 h[] (root 1 ∷ []), 0))
+    × (judge pairings (under pairings (deciding-two (some 0) (some 0))) (goal pairings 0) 9 ≡ some (is 0 h[] (root 1 ∷ []), 0))
+    × (judge pairings (under pairings (deciding-two (some 1) none)) (goal pairings 0) 6 ≡ some (is 0 h[] (root 0 ∷ []), 0))
+    × (judge pairings (under pairings (deciding-two (some 0) none)) (goal pairings 0) 9 ≡ some (waits (root 1), 0))
+    × (judge pairings (under pairings undecided) (goal pairings 0) 9 ≡ some (waits (root 0), 0))
+    × (judge pairings (under pairings third-decided) (goal pairings 1) 9 ≡ some (is 0 h[] (root 2 ∷ (child (root 2) 0 1 ∷ [])), 0))
 
 abbrev pub Examples : Type 0
-Examples = Nine-steps × Right-asked × Loops × Right-alone × Left-for-ever × Next-variables × Past-waiting
+Examples = Nine-steps × Right-asked × Loops × And-rules × Left-for-ever × Case-rules × Pair-rules
