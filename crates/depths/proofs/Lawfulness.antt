@@ -1,13 +1,12 @@
--- The types of a lawful problem are closed: Bool's constructors take nothing, and each declared type's limits say it
+-- The types of a lawful problem have values and are closed: Bool's constructors take nothing, and each declared type's limits say it
 -- of its constructors one by one. Assumes nothing.
-use mathlib.Core.Path.{_≡_}
 use mathlib.Core.List.{List, [], _∷_}
-use Prim.Native.Nat.{ℕ, zero, suc, _≤_, _<_}
+use Prim.Native.Nat.{ℕ, zero, suc, _<_}
 use native.Mathlib.Omega.{arith}
 use lib.ListN.{length, getD}
 use Rattle.syntax.specs.Typing.{Sig, Declared}
 use Rattle.syntax.specs.Problems.{Problem, bool, sig-of, Each, Few-types, Lawful-type, Lawful}
-use Rattle.depths.specs.Laws.{Closed, Lawful-closed}
+use Rattle.depths.specs.Laws.{Closed, Lawful-types}
 
 each-at : {A : Type 0} (P : A → Type 0) (xs : List A) (d : A) → Each P xs → (i : ℕ) → i < length xs → P (getD xs i d)
 each-at P [] d e i l = absurd (omega (arith, l))
@@ -26,7 +25,10 @@ of-bool sig zero j l m = absurd (omega (arith, m))
 of-bool sig (suc zero) j l m = absurd (omega (arith, m))
 of-bool sig (suc (suc c)) j l m = absurd (omega (arith, l))
 
-pub lawful-closed : Lawful-closed
-lawful-closed p L zero c j d l m = of-bool (sig-of p) c j l m
-lawful-closed p L (suc t) c j d l m =
+closed : (p : Problem) → Lawful p → Closed (sig-of p)
+closed p L zero c j d l m = of-bool (sig-of p) c j l m
+closed p L (suc t) c j d l m =
     of-lawful (sig-of p) (getD (p .types) t []) (each-at (Lawful-type (sig-of p)) (p .types) [] (L .of-types) t (omega (arith, d))) c j l m
+
+pub lawful-types : Lawful-types
+lawful-types p L = (L .inhabited, closed p L)

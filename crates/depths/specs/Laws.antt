@@ -1,18 +1,11 @@
 -- The laws of depth that a search rests on, and for which declarations they hold. Assumes nothing.
 use mathlib.Core.Path.{_≡_}
-use mathlib.Core.List.{List}
 use Prim.Native.Nat.{ℕ, _+_, _≤_, _<_}
 use lib.ListN.{length, getD}
 use Rattle.syntax.specs.Typing.{Sig, Declared, constructors, arguments}
 use Rattle.syntax.specs.Values.{Value, Values, build, OfType, cost, depth, deepest, Shallow}
-use Rattle.syntax.specs.Least.{least-of, need-of, Least-is-least}
+use Rattle.syntax.specs.Least.{least-of, need-of}
 use Rattle.syntax.specs.Problems.{Problem, sig-of, Lawful}
-
--- every type that a constructor takes is declared
-abbrev pub Closed : Sig → Type 0
-Closed sig =
-    (t c j : ℕ) → Declared sig t → c < constructors sig t → j < length (arguments sig t c)
-    → Declared sig (getD (arguments sig t c) j 0)
 
 -- every declared type has a value no deeper than 8
 abbrev pub Inhabited : Sig → Type 0
@@ -27,26 +20,25 @@ pub record Depths (sig : Sig) : Type 0 where
   pub smallest : ℕ → Value  -- a value of the type with the least depth
   pub adds : (t c : ℕ) (vs : Values) → depth sig t (build c vs) ≡ cost t c + deepest sig (arguments sig t c) vs
   pub costs : (t c : ℕ) → 1 ≤ cost t c
-  pub own : (t c : ℕ) → Declared sig t → c < constructors sig t → cost t c ≤ need t c
-  pub needs : (t c : ℕ) (vs : Values) → Declared sig t → OfType sig t (build c vs) → need t c ≤ depth sig t (build c vs)
-  pub least-first : (t c : ℕ) → Declared sig t → c < constructors sig t → least t ≤ need t c
-  pub room : (t c j : ℕ) → Declared sig t → c < constructors sig t → j < length (arguments sig t c)
-      → cost t c + least (getD (arguments sig t c) j 0) ≤ need t c
+  pub own : (t c : ℕ) → cost t c ≤ need t c
+  pub needs : (t c : ℕ) (vs : Values) → OfType sig t (build c vs) → need t c ≤ depth sig t (build c vs)
+  pub least-first : (t c : ℕ) → c < constructors sig t → least t ≤ need t c
+  pub room : (t c j : ℕ) → j < length (arguments sig t c) → cost t c + least (getD (arguments sig t c) j 0) ≤ need t c
   pub easiest-is : (t : ℕ) → Declared sig t → easiest t < constructors sig t
   pub easiest-needs : (t : ℕ) → Declared sig t → need t (easiest t) ≡ least t
   pub smallest-is : (t : ℕ) → Declared sig t → OfType sig t (smallest t)
   pub smallest-depth : (t : ℕ) → Declared sig t → depth sig t (smallest t) ≡ least t
 
--- the computed number is the least depth, for all declarations and types
-abbrev pub Least-stands : Type 0
-Least-stands = (sig : Sig) (t : ℕ) → Least-is-least sig t
-
 -- the computed least depths and needs obey the laws
-abbrev pub Depths-stand : Type 0
-Depths-stand =
-    (sig : Sig) → Closed sig → Inhabited sig
-    → (D : Depths sig) × (D .cost ≡ cost sig) × (D .least ≡ least-of sig) × (D .need ≡ need-of sig)
+abbrev pub Depths-stand : Sig → Type 0
+Depths-stand sig = (D : Depths sig) × (D .cost ≡ cost sig) × (D .least ≡ least-of sig) × (D .need ≡ need-of sig)
 
--- The types of a lawful problem are closed; that they are inhabited is a part of lawfulness.
-abbrev pub Lawful-closed : Type 0
-Lawful-closed = (p : Problem) → Lawful p → Closed (sig-of p)
+-- every type that a constructor of a declared type takes is declared
+abbrev pub Closed : Sig → Type 0
+Closed sig =
+    (t c j : ℕ) → Declared sig t → c < constructors sig t → j < length (arguments sig t c)
+    → Declared sig (getD (arguments sig t c) j 0)
+
+-- the types of a lawful problem have values and are closed
+abbrev pub Lawful-types : Type 0
+Lawful-types = (p : Problem) → Lawful p → Inhabited (sig-of p) × Closed (sig-of p)

@@ -1,5 +1,5 @@
-use Rattle.depths.proofs.Leasts.{least-stands}
+use Rattle.depths.proofs.Leasts.{least-is-least}
 use Rattle.depths.proofs.laws.least_stands.Needs as need
 
 pub returns : need.returns
-returns c = least-stands
+returns c = least-is-least
