@@ -28,7 +28,7 @@ use Rattle.finder.specs.Asking.{switches, asked}
 use Rattle.finder.specs.Models.{Solves}
 use Rattle.finder.specs.Invariant.{says-all, meets, Fine, Explained}
 use Rattle.finder.specs.Claims.{None-stands, Never-stands, Shallow-stands}
-use Rattle.finder.proofs.Tables.{same-some, same-path-is, in-table, opening-entry, declared-root, declared-at}
+use Rattle.finder.proofs.Tables.{same-some, same-path-is, in-table, opening-entry, declared-at}
 use Rattle.finder.proofs.Clauses.{says-opened}
 use Rattle.finder.proofs.Conflicts.{says-each}
 use Rattle.finder.proofs.Asking.{Denied, asked-holds, switches-hold}
@@ -246,8 +246,7 @@ module _ (p : Problem) (D : Depths (sig-of p)) (force : ℕ → Bool) (α : Valu
         bad (inl q) same =
             let h = constructor-some (part α u) (q .0) (q .1) in
             let dep = part-deep p α as′ D n r u (build (q .0) (h .0)) (h .1) in
-            let nd = D .needs (type-of (sig-of p) u) (q .0) (h .0) (declared-at p T count L tab u (in-table T u a e))
-            (part-typed p α as′ u (build (q .0) (h .0)) (h .1)) in
+            let nd = D .needs (type-of (sig-of p) u) (q .0) (h .0) (part-typed p α as′ u (build (q .0) (h .0)) (h .1)) in
             let cs : D .need (type-of (sig-of p) u) c ≡ D .need (type-of (sig-of p) u) (q .0) = ap (D .need (type-of (sig-of p) u)) (same ∙ pick-reached u (q .0) (q .1)) in
             omega (arith, dep, nd, cs, deep)
         bad (inr q) same =
@@ -295,6 +294,6 @@ shallow-stands p D n L e α as′ r =
     go : (k : ℕ) → k < length (p .unknowns) → n < D .least (getD (p .unknowns) k 0) → (v : Value) → OfType (sig-of p) (getD (p .unknowns) k 0) v
         → depth (sig-of p) (getD (p .unknowns) k 0) v ≤ deepest (sig-of p) (p .unknowns) α → ⊥
     go k l deep (build c vs) q d =
-        let a = D .needs (getD (p .unknowns) k 0) c vs (declared-root p L k l) q in
-        let b = D .least-first (getD (p .unknowns) k 0) c (declared-root p L k l) (built q .0) in
+        let a = D .needs (getD (p .unknowns) k 0) c vs q in
+        let b = D .least-first (getD (p .unknowns) k 0) c (built q .0) in
         omega (arith, a, b, d, r, deep)

@@ -13,7 +13,7 @@ use Rattle.syntax.specs.Typing.{Sig, Declared, arguments}
 use Rattle.syntax.specs.Values.{Value, Values, build, v[], _v∷_, OfType, of-type, OfTypes, of[], _of∷_, depth, deepest}
 use Rattle.syntax.specs.Problems.{Problem, sig-of, Lawful}
 use Rattle.depths.specs.Laws.{Depths}
-use Rattle.depths.proofs.Lawfulness.{lawful-closed}
+use Rattle.depths.proofs.Lawfulness.{lawful-types}
 use Rattle.judging.specs.Held.{goal}
 use Rattle.judging.specs.Judging.{judge}
 use Rattle.judging.specs.Paths.{Path, root, child, Decision, type-of, under}
@@ -215,12 +215,12 @@ module _ (p : Problem) (D : Depths (sig-of p)) (T : Table) (count n : ℕ) (w : 
       go (some c) e ih =
           let q = fits-below u c fit e in
           let room = q .1 in
-          let own = D .own (type-of sig u) c d (q .0) in
+          let own = D .own (type-of sig u) c in
           let x = D .costs (type-of sig u) c in
           let r = gather p δ n (at u + D .cost (type-of sig u) c) (omega (arith, own, room)) (child u c) (arguments sig (type-of sig u) c)
           (λ j l.
-          let m = D .room (type-of sig u) c j d (q .0) l in
-          ih c j (lawful-closed p L (type-of sig u) c j d (q .0) l) (omega (arith, m, room)) (omega (arith, x, far))) in
+          let m = D .room (type-of sig u) c j l in
+          ih c j (lawful-types p L .1 (type-of sig u) c j d (q .0) l) (omega (arith, m, room)) (omega (arith, x, far))) in
           let a = D .adds (type-of sig u) c (r .values) in
           let low = r .low in
           record {

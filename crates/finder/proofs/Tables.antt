@@ -11,7 +11,7 @@ use lib.Dec.{eqb}
 use Rattle.std.proofs.shelf.Tests.{both-ways, eqb-true, eq-eqb, and-parts, and-from, cond-true, cond-false, false≢true}
 use Rattle.syntax.specs.Typing.{Declared}
 use Rattle.syntax.specs.Problems.{Problem, sig-of, Each, Lawful}
-use Rattle.depths.proofs.Lawfulness.{lawful-closed}
+use Rattle.depths.proofs.Lawfulness.{lawful-types}
 use Rattle.judging.specs.Paths.{Path, root, child, type-of}
 use Rattle.judging.specs.Asked.{_∈_, first, later}
 use Rattle.finder.specs.Tables.{Entry, Table, paths, same-path, opening, roots-from, marked, kids-from, kids-of, Distinct, apart[], _apart∷_, Tabled}
@@ -101,7 +101,7 @@ pub declared-at : (p : Problem) (T : Table) (count : ℕ) → Lawful p → Table
 declared-at p T count L tab (root k) m = declared-root p L k (tab .only-roots k m)
 declared-at p T count L tab (child u c j) m =
     let q = tab .parents u c j m in
-    lawful-closed p L (type-of (sig-of p) u) c j (declared-at p T count L tab u (in-table T u (q .0) (q .1))) (q .2) (q .3)
+    lawful-types p L .1 (type-of (sig-of p) u) c j (declared-at p T count L tab u (in-table T u (q .0) (q .1))) (q .2) (q .3)
 
 -- paths told apart
 abbrev pub Is-child : Path → Type 0

@@ -10,8 +10,8 @@ use Rattle.syntax.specs.Typing.{Declared, constructors}
 use Rattle.syntax.specs.Values.{Values}
 use Rattle.syntax.specs.Problems.{Problem, sig-of, Lawful}
 use Rattle.depths.specs.Laws.{Depths}
-use Rattle.depths.proofs.Lawfulness.{lawful-closed}
-use Rattle.depths.proofs.Leasts.{depths-stand}
+use Rattle.depths.proofs.Lawfulness.{lawful-types}
+use Rattle.depths.proofs.Obeying.{depths-stand}
 use Rattle.judging.specs.Assignments.{Assigns}
 use Rattle.finder.specs.Levels.{measures, measured, too-shallow, Within}
 use Rattle.finder.specs.Tables.{Table, Tabled}
@@ -26,12 +26,12 @@ use Rattle.finder.proofs.Assigned.{none-stands, never-stands, shallow-stands}
 
 module _ (p : Problem) (L : Lawful p) where
   laws : Depths (sig-of p)
-  laws = depths-stand (sig-of p) (lawful-closed p L) (L .inhabited) .0
+  laws = depths-stand (sig-of p) (lawful-types p L .0) .0
 
   same : measured laws ≡ measures p
   unfolding laws
   same =
-      let q = depths-stand (sig-of p) (lawful-closed p L) (L .inhabited) in
+      let q = depths-stand (sig-of p) (lawful-types p L .0) in
       λ i. record { cost = q .1 i; least = q .2 i; need = q .3 i }
 
   pub some-constructor : (t : ℕ) → Declared (sig-of p) t → 0 < constructors (sig-of p) t
