@@ -26,6 +26,14 @@ pub enum Answer {
     No,
 }
 
+// Why a chooser cannot be made. Want of memory is a fault of making a chooser and of nothing else.
+#[derive(Clone, Copy, PartialEq, Eq, Debug)]
+pub enum MakeFault {
+    // More than 65,535 entries are wanted.
+    TooManyEntries,
+    NoMemory,
+}
+
 impl Fault {
     // The refusal's number.
     pub fn number(self) -> u8

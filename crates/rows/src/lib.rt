@@ -5,6 +5,7 @@ ghost use Prim.Native.Nat.{ℕ, _+_, _^_, _≤_, _<_};
 ghost use lib.ListN.{length};
 ghost use Rattle.std.specs.Of.Vec.{vec-len, vec-items, vec-cap};
 ghost use Rattle.chooser.specs.Ways.{allotted};
+ghost use Rattle.rows.specs.Rows.{inside};
 
 // Returns whether each literal is of a variable below `count`.
 pub fn are_allotted(count: u16, literals: &[u16]) -> bool
@@ -16,6 +17,24 @@ pub fn are_allotted(count: u16, literals: &[u16]) -> bool
         }
     }
     true
+}
+
+// Returns whether the row has whole clauses over `count` variables.
+pub fn is_whole(count: u16, row: &[u16]) -> bool
+    ensures { λ r. ⌜ r ≡ inside count 0 (now (row .entry)) ⌝ }
+{
+    let mut rest: u16 = 0;
+    for x in row {
+        if rest == 0 {
+            rest = *x;
+        } else {
+            if *x / 2 >= count {
+                return false;
+            }
+            rest -= 1;
+        }
+    }
+    rest == 0
 }
 
 // Writes the clause behind the others, in room that was reserved.

@@ -1,0 +1,2 @@
+pub mod Allots
+pub mod Adds

@@ -1,0 +1,4 @@
+pub mod Step
+pub mod Feed
+pub mod Read
+pub mod Spelled
