@@ -3,3 +3,4 @@ pub mod Values
 pub mod Made
 pub mod Two
 pub mod Others
+pub mod Possible

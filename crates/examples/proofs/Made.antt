@@ -40,4 +40,3 @@ F₀ w = true
 
 pub fresh-at : {goals : ℕ} {M : Meaning} → Fresh goals M → At goals F₀ 100 1000 M
 fresh-at f = record { counts = f .counts; allows = f .allows; rooms = f .rooms; leaves = f .leaves }
-

@@ -21,43 +21,43 @@ use Rattle.examples.proofs.Turns.{mk, At, at-same, One-way, open-round, record
 use Rattle.examples.proofs.Made.{made, F₀, fresh-at}
 use Rattle.examples.proofs.Values.{one-1, none-1, one-2, one-2-opened, none-2, one-3}
 
-abbrev force : ℕ → Bool
+abbrev pub force : ℕ → Bool
 force = forcing (λ g. false) 0 true
 
-abbrev kid : Path
+abbrev pub kid : Path
 kid = child (root 0) 1 0
 
-abbrev X₀ : Known
+abbrev pub X₀ : Known
 X₀ = record { table = record { path = root 0; first = none } ∷ []; conflicts = [] }
 
-abbrev X₁ : Known
+abbrev pub X₁ : Known
 X₁ = with-opened is-two X₀ (root 0) 1
 
-abbrev X₂ : Known
+abbrev pub X₂ : Known
 X₂ = with-conflict X₁ (conflict-in is-two X₁ (mk (true ∷ (true ∷ (false ∷ [])))) 0 (root 0 ∷ []))
 
-abbrev F₁ : Way → Bool
+abbrev pub F₁ : Way → Bool
 F₁ w = F₀ w && all-met w (opening-clauses 1 2)
 
-abbrev F₂ : Way → Bool
+abbrev pub F₂ : Way → Bool
 F₂ w = F₁ w && all-met w ((1 ∷ (3 ∷ [])) ∷ [])
 
-abbrev X₃ : Known
+abbrev pub X₃ : Known
 X₃ = with-opened is-two X₂ kid 3
 
-abbrev X₄ : Known
+abbrev pub X₄ : Known
 X₄ = with-conflict X₃ (conflict-in is-two X₃ (mk (true ∷ (false ∷ (true ∷ (true ∷ (false ∷ [])))))) 0 (root 0 ∷ (kid ∷ [])))
 
-abbrev X₅ : Known
+abbrev pub X₅ : Known
 X₅ = with-opened is-two X₄ (child kid 1 0) 5
 
-abbrev F₃ : Way → Bool
+abbrev pub F₃ : Way → Bool
 F₃ w = F₂ w && all-met w (opening-clauses 3 2)
 
-abbrev F₄ : Way → Bool
+abbrev pub F₄ : Way → Bool
 F₄ w = F₃ w && all-met w ((1 ∷ (5 ∷ (7 ∷ []))) ∷ [])
 
-abbrev F₅ : Way → Bool
+abbrev pub F₅ : Way → Bool
 F₅ w = F₄ w && all-met w (opening-clauses 5 2)
 
 -- the session as it comes by
@@ -78,7 +78,7 @@ round-1 : One-way is-two force 1 1 X₀ F₀ (true ∷ [])
 round-1 =
     record { long = refl; can = refl; meets = refl; inside = refl; decides = refl; only = λ w e f. (and-parts (w 0) true f .0, tt) }
 
-waits-first : finds is-two force 512 X₀ (mk (true ∷ [])) ≡ waiting-goal 0 (root 0)
+pub waits-first : finds is-two force 512 X₀ (mk (true ∷ [])) ≡ waiting-goal 0 (root 0)
 unfolding judges
 waits-first = refl
 
@@ -86,7 +86,7 @@ round-2 : One-way is-two force 1 3 X₁ F₁ (true ∷ (true ∷ (false ∷ []))
 round-2 =
     record { long = refl; can = refl; meets = refl; inside = refl; decides = refl; only = λ w e f. one-1 (w 0) (w 1) (w 2) e f }
 
-false-first : finds is-two force 512 X₁ (mk (true ∷ (true ∷ (false ∷ [])))) ≡ false-goal 0 (root 0 ∷ [])
+pub false-first : finds is-two force 512 X₁ (mk (true ∷ (true ∷ (false ∷ [])))) ≡ false-goal 0 (root 0 ∷ [])
 unfolding judges
 false-first = refl
 
@@ -103,7 +103,7 @@ round-3 : One-way is-two force 2 3 X₂ F₂ (true ∷ (false ∷ (true ∷ []))
 round-3 =
     record { long = refl; can = refl; meets = refl; inside = refl; decides = refl; only = λ w e f. one-2 (w 0) (w 1) (w 2) e f }
 
-waits-second : finds is-two force 512 X₂ (mk (true ∷ (false ∷ (true ∷ [])))) ≡ waiting-goal 0 kid
+pub waits-second : finds is-two force 512 X₂ (mk (true ∷ (false ∷ (true ∷ [])))) ≡ waiting-goal 0 kid
 unfolding judges
 waits-second = refl
 
@@ -118,7 +118,7 @@ round-4 =
       only = λ w e f. one-2-opened (w 0) (w 1) (w 2) (w 3) (w 4) e f;
     }
 
-false-second : finds is-two force 512 X₃ (mk (true ∷ (false ∷ (true ∷ (true ∷ (false ∷ [])))))) ≡ false-goal 0 (root 0 ∷ (kid ∷ []))
+pub false-second : finds is-two force 512 X₃ (mk (true ∷ (false ∷ (true ∷ (true ∷ (false ∷ [])))))) ≡ false-goal 0 (root 0 ∷ (kid ∷ []))
 unfolding judges
 false-second = refl
 
@@ -144,7 +144,7 @@ round-5 =
       only = λ w e f. one-3 (w 0) (w 1) (w 2) (w 3) (w 4) e f;
     }
 
-waits-third : finds is-two force 512 X₄ (mk (true ∷ (false ∷ (true ∷ (false ∷ (true ∷ [])))))) ≡ waiting-goal 0 (child kid 1 0)
+pub waits-third : finds is-two force 512 X₄ (mk (true ∷ (false ∷ (true ∷ (false ∷ (true ∷ [])))))) ≡ waiting-goal 0 (child kid 1 0)
 unfolding judges
 waits-third = refl
 
@@ -170,7 +170,7 @@ round-6 =
           (q .0, (q .1 .0, (q .1 .1 .0, (q .1 .1 .1 .0, (q .1 .1 .1 .1 .0, (z .0, (z .1, tt)))))));
     }
 
-true-third : finds is-two force 512 X₅ (mk (true ∷ (false ∷ (true ∷ (false ∷ (true ∷ (true ∷ (false ∷ [])))))))) ≡ all-true
+pub true-third : finds is-two force 512 X₅ (mk (true ∷ (false ∷ (true ∷ (false ∷ (true ∷ (true ∷ (false ∷ [])))))))) ≡ all-true
 unfolding judges
 true-third = refl
 

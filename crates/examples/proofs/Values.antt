@@ -134,4 +134,3 @@ one-3 false false false true true e f = absurd (false≢true e)
 one-3 false false false true false e f = absurd (false≢true e)
 one-3 false false false false true e f = absurd (false≢true e)
 one-3 false false false false false e f = absurd (false≢true e)
-

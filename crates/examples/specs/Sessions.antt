@@ -1,6 +1,6 @@
 -- Examples of sessions. Each holds of every chooser, whichever ways it picks. Assumes nothing.
 use mathlib.Core.Path.{_≡_}
-use mathlib.Core.List.{[], _∷_}
+use mathlib.Core.List.{List, [], _∷_}
 use mathlib.Core.Bool.{true}
 use mathlib.Core.Option.{some}
 use Prim.Native.Nat.{ℕ, _≤_}
@@ -9,8 +9,9 @@ use Rattle.syntax.specs.Terms.{unknown, con, call, both, t[]}
 use Rattle.syntax.specs.Problems.{Problem}
 use Rattle.judging.specs.Examples.{is-two}
 use Rattle.finder.specs.Ways.{Way}
-use Rattle.histories.specs.States.{State, begun, start}
+use Rattle.histories.specs.States.{Session, State, begun, start}
 use Rattle.histories.specs.Rounds.{Outcome, model, none-within, never, spent-steps}
+use Rattle.histories.specs.Histories.{Event, History, some?}
 use Rattle.histories.specs.Calls.{Reply, answered, after-put, after-give-back, Searches}
 
 -- what a new chooser means once switches for so many goals are allotted; it has plenty of room
@@ -77,3 +78,7 @@ looping =
 pub record Steps-spent : Type 0 where
   pub loops-spend : (M M₁ : Meaning) (S₁ : State) (r : Reply) → Fresh 1 M → Search 1 (forced looping M) M r S₁ M₁
       → r ≡ reply (spent-steps 0) 1 0 0
+
+-- There are such sessions: by a begin, a put and searches to depths 1, 2 and 3, a session comes to have the value 2 at hand.
+abbrev pub Comes-to-hand : Type 0
+Comes-to-hand = (es : List Event) × (s : Session) × (M : Meaning) × History es (begun s) M × (some? (s .model) ≡ true)

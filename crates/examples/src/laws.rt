@@ -1,5 +1,5 @@
 // Sessions worked through by the rules: each function's contract says what every chooser's searches answer.
-ghost use Rattle.examples.specs.Sessions.{Two-found, Pair-found, Never-true, Steps-spent};
+ghost use Rattle.examples.specs.Sessions.{Two-found, Pair-found, Never-true, Steps-spent, Comes-to-hand};
 
 // "The unknown is 2": NONE at depths 1 and 2, a model at depth 3, and NONE in one round at depth 1 after that.
 pub fn two_found_stands() -> u8
@@ -25,6 +25,13 @@ pub fn never_true_stands() -> u8
 // A goal that loops spends the steps.
 pub fn steps_spent_stands() -> u8
     ensures { λ _. ⌜ Steps-spent ⌝ }
+{
+    0
+}
+
+// There is a history by which a session comes to have a model at hand.
+pub fn comes_to_hand_stands() -> u8
+    ensures { λ _. ⌜ Comes-to-hand ⌝ }
 {
     0
 }
