@@ -1,0 +1,2 @@
+// Sessions worked through by the rules, for every chooser.
+pub mod laws;

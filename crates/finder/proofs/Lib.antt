@@ -1,0 +1,11 @@
+pub mod Tables
+pub mod Ways
+pub mod Clauses
+pub mod Extended
+pub mod Invariant
+pub mod Asking
+pub mod Conflicts
+pub mod Typed
+pub mod Findings
+pub mod Models
+pub mod Assigned

@@ -1,0 +1,10 @@
+pub mod Levels
+pub mod Tables
+pub mod Ways
+pub mod Clauses
+pub mod Conflicts
+pub mod Asking
+pub mod Findings
+pub mod Models
+pub mod Invariant
+pub mod Claims

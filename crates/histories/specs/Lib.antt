@@ -1,0 +1,5 @@
+pub mod States
+pub mod Rounds
+pub mod Calls
+pub mod Histories
+pub mod Theorem
