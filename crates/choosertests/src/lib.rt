@@ -5,6 +5,8 @@ mod tests {
     use chooser::Chooser;
     use chooser::Fault;
     use chooser::MakeFaultDebug;
+    use learning::Learning;
+    use learning::LearningChooser;
     use plain::Plain;
     use plain::PlainChooser;
     use std::test::*;
@@ -110,5 +112,30 @@ mod tests {
     #[test]
     fn plain_too_many_entries(rt: LibcRuntime) -> Result<(), Fail> {
         check(Plain::new(rt.alloc(), 65536).is_err())
+    }
+
+    #[test]
+    fn learning_all_variables(rt: LibcRuntime) -> Result<(), Fail> {
+        all_variables(&mut Learning::new(rt.alloc(), 2)?)
+    }
+
+    #[test]
+    fn learning_five_entries(rt: LibcRuntime) -> Result<(), Fail> {
+        five_entries(&mut Learning::new(rt.alloc(), 5)?)
+    }
+
+    #[test]
+    fn learning_wrong_lengths(rt: LibcRuntime) -> Result<(), Fail> {
+        wrong_lengths(&mut Learning::new(rt.alloc(), 0)?)
+    }
+
+    #[test]
+    fn learning_answers(rt: LibcRuntime) -> Result<(), Fail> {
+        answers(&mut Learning::new(rt.alloc(), 65535)?)
+    }
+
+    #[test]
+    fn learning_too_many_entries(rt: LibcRuntime) -> Result<(), Fail> {
+        check(Learning::new(rt.alloc(), 65536).is_err())
     }
 }

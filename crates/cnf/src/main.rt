@@ -1,5 +1,5 @@
 // Reads a formula in the DIMACS form from the file that is named, or from the input, and answers as solvers in this field do.
-// Usage: cnf [--plain] [FILE]
+// Usage: cnf [--plain | --learning] [FILE]
 use chooser::Answer;
 use chooser::Chooser;
 use chooser::Fault;
@@ -10,6 +10,8 @@ use dimacs::Kind;
 use dimacs::ReadError;
 use dimacs::read;
 use dimacs::true_literal;
+use learning::Learning;
+use learning::LearningChooser;
 use plain::Plain;
 use plain::PlainChooser;
 use std::env;
@@ -28,6 +30,7 @@ const LINE: u16 = 10;
 #[derive(Clone, Copy)]
 enum Which {
     Plain,
+    Learning,
 }
 
 fn words(kind: Kind) -> &'static str {
@@ -87,27 +90,38 @@ fn answer<C: Chooser>(
     }
 }
 
+fn unmade(fault: MakeFault) -> AnyError {
+    match fault {
+        MakeFault::TooManyEntries => "a chooser of too many entries".into(),
+        MakeFault::NoMemory => "no memory".into(),
+    }
+}
+
 fn ask(rt: &LibcRuntime, which: Which, formula: &Formula) -> Result<(), AnyError> {
     match which {
         Which::Plain => match Plain::new(rt.alloc(), ENTRIES) {
             Ok(mut chooser) => answer(rt, &mut chooser, formula),
-            Err(MakeFault::TooManyEntries) => Err("a chooser of too many entries".into()),
-            Err(MakeFault::NoMemory) => Err("no memory".into()),
+            Err(fault) => Err(unmade(fault)),
+        },
+        Which::Learning => match Learning::new(rt.alloc(), ENTRIES) {
+            Ok(mut chooser) => answer(rt, &mut chooser, formula),
+            Err(fault) => Err(unmade(fault)),
         },
     }
 }
 
 fn run(rt: &LibcRuntime) -> Result<(), AnyError> {
-    let mut which = Which::Plain;
+    let mut which = Which::Learning;
     let mut text = None;
     let mut args = env::args(rt)?;
     let _program = args.next();
     for word in args {
         match word.as_str() {
             "--plain" => which = Which::Plain,
+            "--learning" => which = Which::Learning,
             path => {
                 if path.starts_with("-") {
-                    return Err("the options are: --plain".into());
+                    return Err("the options are: --plain, --learning".into());
                 }
                 text = Some(fs::read(rt, path)?);
             }
