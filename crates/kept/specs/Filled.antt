@@ -16,8 +16,8 @@ use Rattle.syntax.specs.Problems.{encode-problem}
 use Rattle.tables.specs.declared.filling.Counts.{Counts}
 use Rattle.depths.specs.Least.{Leasts}
 use Rattle.verdict.specs.Verdict.{verdict}
-use Rattle.problem.specs.Layout.{read-from, sig-from, body-places, goal-places}
-use Rattle.problem.specs.declared.tables.Tables.{Tables}
+use Rattle.kept.specs.Layout.{read-from, sig-from, body-places, goal-places}
+use Rattle.kept.specs.declared.tables.Tables.{Tables}
 
 pub record Filled (bs : List ℕ) (types : List Datatype) (functions : List Callable) (unknowns : List ℕ) (goals : List Span) (least : List ℕ) : Type 0 where
   pub short : length bs ≤ 16384

@@ -3,8 +3,8 @@ use lib.ListN.{length, drop}
 use native.Mathlib.Omega.{arith}
 use Rattle.std.proofs.shelf.Lists.{take-at, length-map}
 use Rattle.syntax.specs.Tables.{cases-in, declared-in}
-use Rattle.problem.specs.Filled.{Needs-held}
-use Rattle.problem.proofs.take.needs_table.Needs as need
+use Rattle.kept.specs.Filled.{Needs-held}
+use Rattle.kept.proofs.fill.needs_table.Needs as need
 
 pub returns : need.returns
 returns c =
