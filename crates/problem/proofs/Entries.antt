@@ -55,22 +55,6 @@ arguments-there ds tys t c e lt =
     let low : c < length (cases-in (getD ds t no-datatype)) = subst (λ x. c < length x) same lt in
     sym (constructor-at (getD ds t no-datatype) c low) ∙ ap (λ x. getD x c []) (sym same)
 
-pub same-profiles : (cs : List Callable) (fs : List Function)
-    → map (λ f. listed (f .params)) cs ≡ map (λ f. f .profile .params) fs
-    → map (λ f. f .result) cs ≡ map (λ f. f .profile .result) fs
-    → map profile-in cs ≡ map (λ f. f .profile) fs
-same-profiles [] [] p r = refl
-same-profiles [] (f ∷ fs) p r = let z : _≡_ {A = ℕ} 0 1 = cc in absurd (omega arith)
-same-profiles (c ∷ cs) [] p r = let z : _≡_ {A = ℕ} 0 1 = cc in absurd (omega arith)
-same-profiles (c ∷ cs) (f ∷ fs) p r =
-    let params : listed (c .params) ≡ f .profile .params = cc in
-    let result : c .result ≡ f .profile .result = cc in
-    let p′ : map (λ f. listed (f .params)) cs ≡ map (λ f. f .profile .params) fs = cc in
-    let r′ : map (λ f. f .result) cs ≡ map (λ f. f .profile .result) fs = cc in
-    let one : profile-in c ≡ f .profile =
-    ap (λ x. record { params = x; result = c .result }) params ∙ ap (λ x. record { params = f .profile .params; result = x }) result in
-    ap (λ x. x ∷ map profile-in cs) one ∙ ap (λ xs. f .profile ∷ xs) (same-profiles cs fs p′ r′)
-
 -- no type, no value
 pub no-type : (sig : Sig) (t : ℕ) → length (sig .types) ≤ t → least-of sig t ≡ 9
 no-type sig t le =

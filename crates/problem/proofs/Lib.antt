@@ -2,5 +2,4 @@ pub mod Entries
 pub mod Lawfulness
 pub mod Standing
 pub mod Views
-pub mod Filling
 pub mod Taking

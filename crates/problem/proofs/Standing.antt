@@ -11,7 +11,7 @@ use Rattle.syntax.specs.Problems.{Function, Problem, Lawful, Lawful-function, L
 use Rattle.tables.specs.Tabled.{places-of}
 use Rattle.ends.specs.Ends.{StandsAt}
 use Rattle.verdict.specs.Exact.{Encodes}
-use Rattle.problem.specs.Layout.{functions-from, unknowns-from, goals-from, body-from, goal-from, body-places, goal-places}
+use Rattle.kept.specs.Layout.{functions-from, unknowns-from, goals-from, body-from, goal-from, body-places, goal-places}
 
 pub length-places : {A : Type 0} (g : ℕ → A → ℕ) (w : A → List ℕ) (p : ℕ) (xs : List A) → length (places-of g w p xs) ≡ length xs
 length-places g w p [] = refl

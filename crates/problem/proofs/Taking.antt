@@ -12,7 +12,7 @@ use Rattle.syntax.specs.Problems.{empty-problem, encode-end, Problem as Meaning
 use Rattle.verdict.specs.Verdict.{verdict, problem-in, decoded}
 use Rattle.verdict.specs.Exact.{Encodes}
 use Rattle.verdict.proofs.Exact.{verdict-is-exact}
-use Rattle.problem.specs.Layout.{read-from}
+use Rattle.kept.specs.Layout.{read-from}
 use Rattle.problem.specs.Meant.{held, meant}
 use Rattle.problem.specs.Taken.{Taken}
 use Rattle.problem.specs.declared.problem.Problem.{Problem}

@@ -8,7 +8,7 @@ use Rattle.syntax.specs.Terms.{Term, encode}
 use Rattle.syntax.specs.Typing.{Sig, Want, want, params-of, result-of}
 use Rattle.syntax.specs.Problems.{Function, Problem as Meaning}
 use Rattle.ends.specs.Ends.{ends-of, StandsAt}
-use Rattle.problem.specs.Layout.{read-from, sig-from}
+use Rattle.kept.specs.Layout.{read-from, sig-from}
 use Rattle.problem.specs.declared.problem.Problem.{Problem}
 
 abbrev pub held : Problem → List ℕ

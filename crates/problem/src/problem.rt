@@ -12,7 +12,7 @@ ghost use Rattle.syntax.specs.Least.{least-of, need-of};
 ghost use Rattle.syntax.specs.Problems.{encode-problem};
 ghost use Rattle.ends.specs.Ends.{ends-of};
 ghost use Rattle.verdict.specs.Verdict.{verdict};
-ghost use Rattle.problem.specs.Layout.{read-from, sig-from, body-places, goal-places};
+ghost use Rattle.kept.specs.Layout.{read-from, sig-from, body-places, goal-places};
 use syntax::tables::Callable;
 use syntax::tables::Datatype;
 use syntax::tables::Span;

@@ -7,7 +7,7 @@ ghost use Rattle.syntax.specs.Tables.{declared-in};
 ghost use Rattle.syntax.specs.Least.{least-of, need-of};
 ghost use Rattle.ends.specs.Ends.{hop};
 ghost use Rattle.verdict.specs.Exact.{Encodes};
-ghost use Rattle.problem.specs.Layout.{body-places, goal-places};
+ghost use Rattle.kept.specs.Layout.{body-places, goal-places};
 ghost use Rattle.problem.specs.Meant.{held, meant, sig, ends, Body-stands, Goal-stands, Comes-after};
 ghost use Rattle.problem.specs.Views.{view-by, view-at, Shows-all};
 use crate::problem::Problem;

@@ -2,7 +2,7 @@
 
 // The head of a term: which kind it is, and where its parts stand. The arguments of a constructor or a call, and the branches
 // of a case, stand one after another; the branches come after the subject.
-#[derive(Clone, Copy, PartialEq, Eq, Debug)]
+#[derive(Clone, Copy)]
 pub enum View {
     Variable(u8),
     Unknown(u8),

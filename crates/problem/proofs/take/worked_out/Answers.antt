@@ -8,9 +8,9 @@ use Rattle.syntax.specs.declared.tables.Signature.{Signature}
 use Rattle.syntax.specs.Tables.{cases-in, declared-in}
 use Rattle.depths.specs.Least.{Leasts}
 use Rattle.ends.specs.Ends.{ends-of}
-use Rattle.problem.specs.Layout.{sig-from}
-use Rattle.problem.specs.Filled.{Filled, Needs-held}
-use Rattle.problem.proofs.Filling.{declared-same}
+use Rattle.kept.specs.Layout.{sig-from}
+use Rattle.kept.specs.Filled.{Filled, Needs-held}
+use Rattle.kept.proofs.Filling.{declared-same}
 use Rattle.problem.proofs.take.worked_out.Needs as need
 
 pub returns-in-Break-next : need.returns-in-Break-next

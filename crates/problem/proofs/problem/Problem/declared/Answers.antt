@@ -3,7 +3,7 @@ use mathlib.Core.List.{map}
 use Rattle.std.specs.Of.Vec.{vec-items}
 use Rattle.syntax.specs.Tables.{cases-in, profile-in}
 use Rattle.problem.specs.Meant.{sig, meant}
-use Rattle.problem.proofs.Entries.{same-profiles}
+use Rattle.kept.proofs.Records.{same-profiles}
 use Rattle.problem.proofs.problem.Problem.declared.Needs as need
 
 pub returns : need.returns

@@ -2,7 +2,7 @@ use mathlib.Core.Path.{_≡_, _∙_}
 use lib.ListN.{length, getD}
 use native.Mathlib.Omega.{arith}
 use Rattle.std.specs.Of.Vec.{vec-items}
-use Rattle.problem.specs.Layout.{goal-places}
+use Rattle.kept.specs.Layout.{goal-places}
 use Rattle.problem.specs.Meant.{held, meant}
 use Rattle.problem.proofs.Entries.{read-map, past-map}
 use Rattle.problem.proofs.Lawfulness.{is-encoded}

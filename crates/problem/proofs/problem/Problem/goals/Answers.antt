@@ -3,7 +3,7 @@ use lib.ListN.{length}
 use Rattle.std.specs.Of.Vec.{vec-items}
 use Rattle.std.proofs.shelf.Lists.{length-map}
 use Rattle.syntax.specs.Problems.{encode-goal}
-use Rattle.problem.specs.Layout.{goal-from, goals-from}
+use Rattle.kept.specs.Layout.{goal-from, goals-from}
 use Rattle.problem.specs.Meant.{meant}
 use Rattle.problem.proofs.Standing.{length-places}
 use Rattle.problem.proofs.problem.Problem.goals.Needs as need

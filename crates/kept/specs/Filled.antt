@@ -15,9 +15,10 @@ use Rattle.syntax.specs.Least.{need-of}
 use Rattle.syntax.specs.Problems.{encode-problem}
 use Rattle.tables.specs.declared.filling.Counts.{Counts}
 use Rattle.depths.specs.Least.{Leasts}
+use Rattle.depths.specs.Needs.{need-by, Filled as By-rows}
 use Rattle.verdict.specs.Verdict.{verdict}
-use Rattle.problem.specs.Layout.{read-from, sig-from, body-places, goal-places}
-use Rattle.problem.specs.declared.tables.Tables.{Tables}
+use Rattle.kept.specs.Layout.{read-from, sig-from, body-places, goal-places}
+use Rattle.kept.specs.declared.tables.Tables.{Tables}
 
 pub record Filled (bs : List ℕ) (types : List Datatype) (functions : List Callable) (unknowns : List ℕ) (goals : List Span) (least : List ℕ) : Type 0 where
   pub short : length bs ≤ 16384
@@ -35,9 +36,10 @@ pub record Filled (bs : List ℕ) (types : List Datatype) (functions : List Call
 abbrev pub Holds : List ℕ → Tables → Type 0
 Holds bs t = Filled bs (vec-items (t .types)) (vec-items (t .functions)) (vec-items (t .unknowns)) (vec-items (t .goals)) (vec-items (t .least))
 
--- a row of needs for each type, by the least depths of types
+-- a row of needs for each type, by a table of least depths; they are what constructors need where the depths are right
 pub record Needs-held (sig : Sig) (least : List ℕ) (rows : List (List ℕ)) : Type 0 where
   pub long : length rows ≡ length (sig .types)
+  pub by : By-rows (need-by sig least) rows
   pub each : Leasts sig least → (t c : ℕ) → (t < length rows) × (c < 16) → getD (getD rows t []) c 0 ≡ need-of sig t c
 
 -- the tables are the fronts of these

@@ -3,8 +3,8 @@ use lib.ListN.{length, drop}
 use native.Mathlib.Omega.{arith}
 use Rattle.std.proofs.shelf.Lists.{take-at, length-map}
 use Rattle.syntax.specs.Tables.{cases-in, declared-in}
-use Rattle.problem.specs.Filled.{Needs-held}
-use Rattle.problem.proofs.take.needs_table.Needs as need
+use Rattle.kept.specs.Filled.{Needs-held}
+use Rattle.kept.proofs.fill.needs_table.Needs as need
 
 pub returns : need.returns
 returns c =
@@ -14,4 +14,4 @@ returns c =
     let all = length-map (c .args .sig .types .now) cases-in in
     subst (Needs-held (declared-in (c .args .sig)) (c .args .least .now))
     (sym (take-at rows (drop (length rows) (c .in-Continue-needs .needs .items)) (c .in-Continue-needs .needs .len) long))
-    (record { long = omega arith; each = λ h t k lt. c .fill-needs .ensures .is h t k (lt .0) (lt .1) })
+    (record { long = omega arith; by = c .fill-needs .ensures .by; each = λ h t k lt. c .fill-needs .ensures .is h t k (lt .0) (lt .1) })

@@ -1,5 +1,5 @@
-use Rattle.problem.proofs.Filling.{holds-fronts}
-use Rattle.problem.proofs.take.examined.Needs as need
+use Rattle.kept.proofs.Filling.{holds-fronts}
+use Rattle.kept.proofs.fill.examined.Needs as need
 
 pub returns : need.returns
 returns c =

@@ -2,7 +2,7 @@ use mathlib.Core.Path.{_≡_, _∙_}
 use lib.ListN.{length, drop}
 use native.Mathlib.Omega.{arith}
 use Rattle.std.proofs.shelf.Lists.{take-at}
-use Rattle.problem.proofs.take.ends_table.Needs as need
+use Rattle.kept.proofs.fill.ends_table.Needs as need
 
 pub returns : need.returns
 returns c =

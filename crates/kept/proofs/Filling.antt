@@ -29,11 +29,10 @@ use Rattle.verdict.specs.Verdict.{verdict, problem-in, term-in, bodies-in, goal
 use Rattle.verdict.specs.Examined.{Accepted}
 use Rattle.verdict.proofs.Results.{was-ok, term-was}
 use Rattle.verdict.proofs.Bodies.{with-body, bodies-sound, goals-sound}
-use Rattle.problem.specs.Layout.{read-from, sig-from, functions-from, unknowns-from, goals-from, body-from, goal-from, body-places, goal-places}
-use Rattle.problem.specs.Filled.{Filled, Holds, Fronts}
-use Rattle.problem.specs.declared.tables.Tables.{Tables}
-use Rattle.problem.proofs.Entries.{same-profiles}
-use Rattle.problem.proofs.Lawfulness.{same-bytes}
+use Rattle.kept.specs.Layout.{read-from, sig-from, functions-from, unknowns-from, goals-from, body-from, goal-from, body-places, goal-places}
+use Rattle.kept.specs.Filled.{Filled, Holds, Fronts}
+use Rattle.kept.specs.declared.tables.Tables.{Tables}
+use Rattle.kept.proofs.Records.{same-bytes, same-profiles}
 
 -- the bodies of functions that were read stand where their records say
 bodies-same : (sig : Sig) (rs : List Raw-function) (p : ℕ) (fs : List Function) → bodies-in sig rs p ≡ Ok fs
