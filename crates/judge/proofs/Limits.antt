@@ -33,7 +33,7 @@ arguments-few {p} h zero c = few-bool c
 arguments-few {p} h (suc t) c = few-of (sig-of p) (p .types) t c (h .of-types)
 
 few-params : (sig : Sig) (fs : List Function) (f : ℕ) → Each (Lawful-function sig) fs
-  → length (getD (map (λ (g : Function). g .profile) fs) f no-profile .params) ≤ 6
+    → length (getD (map (λ (g : Function). g .profile) fs) f no-profile .params) ≤ 6
 few-params sig [] f e = omega arith
 few-params sig (g ∷ fs) zero e = e .0 .0 .0
 few-params sig (g ∷ fs) (suc f) e = few-params sig fs f (e .1)

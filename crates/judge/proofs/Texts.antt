@@ -28,7 +28,7 @@ stands : {x : Text} {place : ℕ} {t : Term} (r : Reads x place t) → StandsAt 
 stands r = record { others = r .others; has = r .typed; is = r .here }
 
 first-row : (x : Text) (place : ℕ) (t : Term) (ts : Terms) (ws : List Want) → Row (sig-in x) (x .bytes) (ends-of (sig-in x) (x .bytes)) place ws (t t∷ ts)
-  → Reads x place t
+    → Reads x place t
 first-row x place t ts [] r = absurd r
 first-row x place t ts (w ∷ ws) r = reads (r .0)
 
@@ -36,7 +36,7 @@ pub first-of : {x : Text} {place : ℕ} {t : Term} {ts : Terms} → ReadsAll x p
 first-of {x} {place} {t} {ts} r = first-row x place t ts (r .wants) (r .row)
 
 rest-row : (x : Text) (place q : ℕ) (t : Term) (ts : Terms) (ws : List Want) → q ≡ hop (ends-of (sig-in x) (x .bytes)) place
-  → Row (sig-in x) (x .bytes) (ends-of (sig-in x) (x .bytes)) place ws (t t∷ ts) → ReadsAll x q ts
+    → Row (sig-in x) (x .bytes) (ends-of (sig-in x) (x .bytes)) place ws (t t∷ ts) → ReadsAll x q ts
 rest-row x place q t ts [] e r = absurd r
 rest-row x place q t ts (w ∷ ws) e r = subst (λ (i : ℕ). ReadsAll x i ts) (sym e) (record { wants = ws; row = r .1 })
 
@@ -83,9 +83,9 @@ skip-none x place zero (t t∷ ts) z lt r = first-of r
 skip-none x place (suc count) (t t∷ ts) z lt r = absurd (omega arith)
 
 pub skip-more : (x : Text) (place count p q : ℕ) (ts : Terms) → 0 < count → count < tlength ts → ReadsAll x place ts
-  → ((t : Term) (us : Terms) → ReadsAll x place (t t∷ us) → ReadsAll x p us)
-  → ((us : Terms) → count - 1 < tlength us → ReadsAll x p us → Reads x q (branch us (count - 1)))
-  → Reads x q (branch ts count)
+    → ((t : Term) (us : Terms) → ReadsAll x place (t t∷ us) → ReadsAll x p us)
+    → ((us : Terms) → count - 1 < tlength us → ReadsAll x p us → Reads x q (branch us (count - 1)))
+    → Reads x q (branch ts count)
 skip-more x place count p q t[] pos lt r after go = absurd (omega arith)
 skip-more x place zero p q (t t∷ ts) pos lt r after go = absurd (omega arith)
 skip-more x place (suc count) p q (t t∷ ts) pos lt r after go = rw sub-one at (go ts (omega arith) (after t ts r))

@@ -113,14 +113,8 @@ fn head_of_term<D: Decides>(
             let env = hold_terms(problem, memory, start, arguments, count, env, 0);
             left.top = start + count as usize;
             let place = problem.body(function);
-            head(
-                problem,
-                decider,
-                memory,
-                left,
-                because,
-                Held::Term { place, env },
-            )
+            let body = Held::Term { place, env };
+            head(problem, decider, memory, left, because, body)
         }
         View::Case { ty, subject } => head_of_case(
             problem,
@@ -143,26 +137,14 @@ fn head_of_term<D: Decides>(
             env,
         ),
         View::Not(place) => {
-            let a = head(
-                problem,
-                decider,
-                memory,
-                left,
-                because,
-                Held::Term { place, env },
-            );
+            let inner = Held::Term { place, env };
+            let a = head(problem, decider, memory, left, because, inner);
             negate(a)
         }
         View::Equal { left: a, right: b } => {
-            let v = compared(
-                problem,
-                decider,
-                memory,
-                left,
-                because,
-                Held::Term { place: a, env },
-                Held::Term { place: b, env },
-            );
+            let a = Held::Term { place: a, env };
+            let b = Held::Term { place: b, env };
+            let v = compared(problem, decider, memory, left, because, a, b);
             truth(v)
         }
         // No term stands there.
@@ -186,17 +168,11 @@ fn head_of_case<D: Decides>(
     ensures few { λ r. ⌜ Few r ⌝ }
     ensures heads { λ r. ⌜ Cases-heads (text-of (now (problem .entry))) (unknowns (now (decider .entry))) (now (memory .entry)) (now (left .entry)) (now (because .entry) .words) (now (memory .exit)) (now (left .exit)) (now (because .exit) .words) ty subject env r ⌝ }
 {
-    match head(
-        problem,
-        decider,
-        memory,
-        left,
-        because,
-        Held::Term {
-            place: subject,
-            env,
-        },
-    ) {
+    let asked = Held::Term {
+        place: subject,
+        env,
+    };
+    match head(problem, decider, memory, left, because, asked) {
         Head::Is {
             constructor,
             start,
@@ -230,14 +206,9 @@ fn head_of_and<D: Decides>(
     ensures heads { λ r. ⌜ Ands-heads (text-of (now (problem .entry))) (unknowns (now (decider .entry))) (now (memory .entry)) (now (left .entry)) (now (because .entry) .words) (now (memory .exit)) (now (left .exit)) (now (because .exit) .words) a b env r ⌝ }
 {
     let mut own = Explanation::nothing();
-    match head(
-        problem,
-        decider,
-        memory,
-        left,
-        &mut own,
-        Held::Term { place: a, env },
-    ) {
+    let a = Held::Term { place: a, env };
+    let b = Held::Term { place: b, env };
+    match head(problem, decider, memory, left, &mut own, a) {
         Head::Is { constructor, .. } => {
             if constructor == 0 {
                 because.join(&own);
@@ -247,25 +218,11 @@ fn head_of_and<D: Decides>(
                     count: 0,
                 };
             }
-            let right = head(
-                problem,
-                decider,
-                memory,
-                left,
-                because,
-                Held::Term { place: b, env },
-            );
+            let right = head(problem, decider, memory, left, because, b);
             and_true(right, &own, because)
         }
         Head::Waits(unknown) => {
-            let right = head(
-                problem,
-                decider,
-                memory,
-                left,
-                because,
-                Held::Term { place: b, env },
-            );
+            let right = head(problem, decider, memory, left, because, b);
             and_waits(unknown, right)
         }
         Head::Out => Head::Out,
@@ -355,19 +312,12 @@ fn arguments<D: Decides>(
     }
     let x = memory[xs].held;
     let y = memory[ys].held;
+    let xs = xs + 1;
+    let ys = ys + 1;
     let mut own = Explanation::nothing();
     match compare(problem, decider, memory, left, &mut own, x, y) {
         Verdict::Same => {
-            let rest = arguments(
-                problem,
-                decider,
-                memory,
-                left,
-                because,
-                xs + 1,
-                ys + 1,
-                count - 1,
-            );
+            let rest = arguments(problem, decider, memory, left, because, xs, ys, count - 1);
             past_same(rest, &own, because)
         }
         Verdict::Differ => {
@@ -375,16 +325,7 @@ fn arguments<D: Decides>(
             Verdict::Differ
         }
         Verdict::Wait(unknown) => {
-            let rest = arguments(
-                problem,
-                decider,
-                memory,
-                left,
-                because,
-                xs + 1,
-                ys + 1,
-                count - 1,
-            );
+            let rest = arguments(problem, decider, memory, left, because, xs, ys, count - 1);
             past_wait(unknown, rest)
         }
         Verdict::Out => Verdict::Out,

@@ -31,7 +31,14 @@ impl Judgement {
 }
 
 // Judges a goal with so many steps. The explanation of a true or a false one is put into `because`.
-pub fn judge_goal<D: Decides>(problem: &Problem, decider: &D, memory: &mut [Place], because: &mut Explanation, steps: usize, goal: usize) -> Judgement
+pub fn judge_goal<D: Decides>(
+    problem: &Problem,
+    decider: &D,
+    memory: &mut [Place],
+    because: &mut Explanation,
+    steps: usize,
+    goal: usize,
+) -> Judgement
     requires room { ⌜ 6 * steps ≤ length (now memory) ⌝ }
     requires known { ⌜ goal < length (text-of (now problem) .problem .goals) ⌝ }
     ensures judged { λ r. ⌜ r ≡ outcome (judge (text-of (now (problem .entry)) .problem) (unknowns (now (decider .entry))) (goal-of (text-of (now (problem .entry)) .problem) goal) steps) ⌝ }
@@ -39,9 +46,20 @@ pub fn judge_goal<D: Decides>(problem: &Problem, decider: &D, memory: &mut [Plac
 {
     let mut left = Left { steps, top: 0 };
     let place = problem.goal(goal);
-    match head(problem, decider, memory, &mut left, because, Held::Term { place, env: 0 }) {
+    match head(
+        problem,
+        decider,
+        memory,
+        &mut left,
+        because,
+        Held::Term { place, env: 0 },
+    ) {
         Head::Is { constructor, .. } => {
-            if constructor == 0 { Judgement::False } else { Judgement::True }
+            if constructor == 0 {
+                Judgement::False
+            } else {
+                Judgement::True
+            }
         }
         Head::Waits(unknown) => Judgement::Waiting(unknown),
         Head::Out => Judgement::Out,

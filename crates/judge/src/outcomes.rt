@@ -52,7 +52,7 @@ pub fn and_true(a: Head, own: &Explanation, because: &mut Explanation) -> Head
                 count: 0,
             }
         }
-        Head::Waits(u) => Head::Waits(u),
+        Head::Waits(right) => Head::Waits(right),
         Head::Out => Head::Out,
     }
 }

@@ -36,13 +36,7 @@ fn skip(problem: &Problem, place: usize, count: u8) -> usize
 }
 
 // The branch for a constructor, of a case on the type `ty` whose subject is at a place.
-pub fn hold_branch(
-    problem: &Problem,
-    ty: u8,
-    subject: usize,
-    constructor: u8,
-    env: usize,
-) -> Held
+pub fn hold_branch(problem: &Problem, ty: u8, subject: usize, constructor: u8, env: usize) -> Held
     ensures { λ r. ⌜ ((m : List Spot) (top : ℕ) (u : Term) (us : Terms) (ρ : Helds ℕ) → count-of (sig-of (text-of (now (problem .entry)) .problem)) ty ≡ tlength us → ReadsAll (text-of (now (problem .entry))) subject (u t∷ us) → Env (Reads (text-of (now (problem .entry)))) m top env ρ → Stands (Reads (text-of (now (problem .entry)))) m top r (held (branch us constructor) ρ)) ⌝ }
 {
     if constructor < problem.constructors(ty) {

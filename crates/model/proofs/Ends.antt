@@ -34,14 +34,14 @@ top-past sig bs mark t p h = past-there bs mark p _ h
 
 -- with as much depth as there are bytes left, a value is read by its top
 pub value-opens : (n : ℕ) (sig : Sig) (bs : List ℕ) (mark t p : ℕ) → length bs ≤ p + n
-  → and-then (top-of sig bs mark t p) (end-by (value-end (n - 1) sig bs mark) sig t p) ≡ value-end n sig bs mark t p
+    → and-then (top-of sig bs mark t p) (end-by (value-end (n - 1) sig bs mark) sig t p) ≡ value-end n sig bs mark t p
 unfolding value-end
 value-opens zero sig bs mark t p h = ap (λ (r : Result (Option ℕ) Fault). and-then r (end-by (value-end (0 - 1) sig bs mark) sig t p)) (top-past sig bs mark t p (omega arith))
 value-opens (suc n) sig bs mark t p h = simp sub-one
 
 module _ (n : ℕ) (sig : Sig) (bs : List ℕ) (mark t p : ℕ) (deep : length bs ≤ p + n) where
   by-top : (o : Result (Option ℕ) Fault) → o ≡ top-of sig bs mark t p
-    → and-then o (end-by (value-end (n - 1) sig bs mark) sig t p) ≡ value-end n sig bs mark t p
+      → and-then o (end-by (value-end (n - 1) sig bs mark) sig t p) ≡ value-end n sig bs mark t p
   by-top o e = ap (λ (r : Result (Option ℕ) Fault). and-then r (end-by (value-end (n - 1) sig bs mark) sig t p)) e ∙ value-opens n sig bs mark t p deep
 
   pub value-fails : (e : Fault) → Err e ≡ top-of sig bs mark t p → Err e ≡ value-end n sig bs mark t p
@@ -51,7 +51,7 @@ module _ (n : ℕ) (sig : Sig) (bs : List ℕ) (mark t p : ℕ) (deep : length b
   value-open h = by-top (Ok None) h
 
   pub value-built : (c : ℕ) (types : List ℕ) (r : Result ℕ Fault) → Ok (Some c) ≡ top-of sig bs mark t p → types ≡ arguments sig t c → p + 3 ≤ length bs
-    → ((k : ℕ) → length bs ≤ p + 3 + k → r ≡ ends (value-end k sig bs mark) (drop 0 types) (p + 3)) → r ≡ value-end n sig bs mark t p
+      → ((k : ℕ) → length bs ≤ p + 3 + k → r ≡ ends (value-end k sig bs mark) (drop 0 types) (p + 3)) → r ≡ value-end n sig bs mark t p
   value-built c types r h is low go =
       go (n - 1) (omega arith) ∙ ap (λ (ts : List ℕ). ends (value-end (n - 1) sig bs mark) ts (p + 3)) is ∙ by-top (Ok (Some c)) h
 
@@ -66,7 +66,7 @@ module _ (one : ℕ → ℕ → Result ℕ Fault) (types : List ℕ) (next p : �
   ends-fails e h is = ap (λ (r : Result ℕ Fault). and-then r (ends one (drop (next + 1) types))) is ∙ ap (λ (ts : List ℕ). ends one ts p) (first h)
 
   pub ends-more : (q : ℕ) (r : Result ℕ Fault) → next < length types → Ok q ≡ one (getD types next 0) p → r ≡ ends one (drop (next + 1) types) q
-    → r ≡ ends one (drop next types) p
+      → r ≡ ends one (drop next types) p
   ends-more q r h is rest =
       rest ∙ ap (λ (r : Result ℕ Fault). and-then r (ends one (drop (next + 1) types))) is ∙ ap (λ (ts : List ℕ). ends one ts p) (first h)
 

@@ -29,7 +29,7 @@ module _ (sig : Sig) (bs types : List ℕ) (k p : ℕ) where
   places-after h lt = at-end h ∙ ap (λ (b : Bool). cond b (Err (fault BytesAfter p)) (Ok [])) (lt-ltb p (length bs) lt)
 
   pub places-all : (roots : List ℕ) → length types ≤ k → length bs ≤ p
-    → places-from sig bs k (drop k types) p ≡ Ok (drop k (take (length types) roots))
+      → places-from sig bs k (drop k types) p ≡ Ok (drop k (take (length types) roots))
   places-all roots h le =
       at-end h ∙ ap (λ (b : Bool). cond b (Err (fault BytesAfter p)) (Ok [])) (le-ltb p (length bs) le)
       ∙ ap (λ (xs : List ℕ). Ok xs) (sym (drop-none k (take (length types) roots) (omega (arith, length-take (length types) roots))))
@@ -41,7 +41,7 @@ module _ (sig : Sig) (bs types : List ℕ) (k p : ℕ) where
   value v = value-end (length bs) sig bs p (getD types k 0) v
 
   by-start : (r : Result ℕ Fault) → k < length types → r ≡ start-of bs k p
-    → places-from sig bs k (drop k types) p ≡ and-then r (λ v. rest v (value v))
+      → places-from sig bs k (drop k types) p ≡ and-then r (λ v. rest v (value v))
   by-start r h e =
       ap (λ (ts : List ℕ). places-from sig bs k ts p) (first types k h)
       ∙ ap (λ (o : Result ℕ Fault). and-then o (λ v. rest v (value v))) (sym e)
@@ -50,16 +50,16 @@ module _ (sig : Sig) (bs types : List ℕ) (k p : ℕ) where
   places-no-start e h is = by-start (Err e) h is
 
   pub places-no-value : (v : ℕ) (e : Fault) → k < length types → Ok v ≡ start-of bs k p → Err e ≡ value v
-    → places-from sig bs k (drop k types) p ≡ Err e
+      → places-from sig bs k (drop k types) p ≡ Err e
   places-no-value v e h is no-value = by-start (Ok v) h is ∙ ap (rest v) (sym no-value)
 
   pub places-more : {U : Type 0} (v q : ℕ) (roots : List ℕ) (r : Result U Fault) → k < length types → length types ≤ length roots → Ok v ≡ start-of bs k p
-    → Ok q ≡ value v → getD roots k 0 ≡ v → Placed (places-from sig bs (k + 1) (drop (k + 1) types) q) (drop (k + 1) (take (length types) roots)) r
-    → Placed (places-from sig bs k (drop k types) p) (drop k (take (length types) roots)) r
+      → Ok q ≡ value v → getD roots k 0 ≡ v → Placed (places-from sig bs (k + 1) (drop (k + 1) types) q) (drop (k + 1) (take (length types) roots)) r
+      → Placed (places-from sig bs k (drop k types) p) (drop k (take (length types) roots)) r
   places-more v q roots (Ok u) h long is there at later =
       by-start (Ok v) h is ∙ ap (rest v) (sym there) ∙ ap (preceded v) later
       ∙ ap (λ (xs : List ℕ). Ok xs)
-        (sym (first (take (length types) roots) k (omega (arith, length-take (length types) roots))
-              ∙ ap (λ x. x ∷ drop (k + 1) (take (length types) roots)) (getD-take (length types) roots k 0 h ∙ at)))
+      (sym (first (take (length types) roots) k (omega (arith, length-take (length types) roots))
+      ∙ ap (λ x. x ∷ drop (k + 1) (take (length types) roots)) (getD-take (length types) roots k 0 h ∙ at)))
   places-more v q roots (Err e) h long is there at later =
       by-start (Ok v) h is ∙ ap (rest v) (sym there) ∙ ap (preceded v) later

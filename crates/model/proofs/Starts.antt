@@ -22,9 +22,9 @@ module _ (sig : Sig) (bs types children : List ℕ) (next place : ℕ) where
       ∙ ap (λ (ts : List ℕ). starts-from sig bs ts place) (sym (drop-none next types h))
 
   pub starts-more : (end : ℕ) → next < length types → length types ≤ length children → getD children next 0 ≡ place
-    → end ≡ or-stay place (value-end (length bs) sig bs 0 (getD types next 0) place)
-    → drop (next + 1) (take (length types) children) ≡ starts-from sig bs (drop (next + 1) types) end
-    → drop next (take (length types) children) ≡ starts-from sig bs (drop next types) place
+      → end ≡ or-stay place (value-end (length bs) sig bs 0 (getD types next 0) place)
+      → drop (next + 1) (take (length types) children) ≡ starts-from sig bs (drop (next + 1) types) end
+      → drop next (take (length types) children) ≡ starts-from sig bs (drop next types) place
   starts-more end h long at is rest =
       first (take (length types) children) next (omega (arith, length-take (length types) children))
       ∙ ap (λ x. x ∷ drop (next + 1) (take (length types) children)) (getD-take (length types) children next 0 h ∙ at)

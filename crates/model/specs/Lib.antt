@@ -3,3 +3,4 @@ pub mod Reading
 pub mod Within
 pub mod Places
 pub mod Models
+pub mod Exact

@@ -27,7 +27,12 @@ pub fn read_model<'a, P: Declares>(problem: &'a P, bytes: &'a [u8]) -> Result<Mo
     let types = problem.unknown_types();
     let mut roots = [0; 16];
     read_places(problem, bytes, types, &mut roots, 0, 0)?;
-    Ok(Model { problem, bytes, count: types.len(), roots })
+    Ok(Model {
+        problem,
+        bytes,
+        count: types.len(),
+        roots,
+    })
 }
 
 // Where the value after this one starts. In a model that was read, values do not fail.
@@ -44,7 +49,14 @@ fn next_start<P: Declares>(problem: &P, bytes: &[u8], ty: u8, place: usize) -> u
 }
 
 // Writes where the values start, of the types from `next` on, that stand one after another from a place on.
-fn write_starts<P: Declares>(problem: &P, bytes: &[u8], types: &[u8], children: &mut [u16], next: usize, place: usize)
+fn write_starts<P: Declares>(
+    problem: &P,
+    bytes: &[u8],
+    types: &[u8],
+    children: &mut [u16],
+    next: usize,
+    place: usize,
+)
     requires short { ⌜ length (now bytes) ≤ 16384 ⌝ }
     requires room { ⌜ length (now types) ≤ length (now children) ⌝ }
     requires low { ⌜ place ≤ length (now bytes) ⌝ }
@@ -73,9 +85,14 @@ pub impl<P: Declares> Decides for Model<'_, P> as ModelDecides {
             return None;
         }
         let constructor = self.bytes[place + 2];
-        let types = self.problem.argument_types(self.bytes[place + 1], constructor);
+        let types = self.problem
+            .argument_types(self.bytes[place + 1], constructor);
         let mut children = [0; 6];
         write_starts(self.problem, self.bytes, types, &mut children, 0, place + 3);
-        Some(Choice { constructor, count: types.len() as u8, children })
+        Some(Choice {
+            constructor,
+            count: types.len() as u8,
+            children,
+        })
     }
 }

@@ -16,11 +16,21 @@ use syntax::faults::Reason;
 fn byte_at(bytes: &[u8], mark: usize, place: usize) -> Result<u8, Fault>
     ensures { λ r. ⌜ r ≡ there (now (bytes .entry)) mark place (Ok (getD (now (bytes .entry)) place 0)) ⌝ }
 {
-    if place < bytes.len() { Ok(bytes[place]) } else { Err(Reason::PastEnd.at(mark)) }
+    if place < bytes.len() {
+        Ok(bytes[place])
+    } else {
+        Err(Reason::PastEnd.at(mark))
+    }
 }
 
 // The constructor of the value of the type `ty` that stands at a place, in the record with this mark; none if it is open.
-fn read_top<P: Declares>(problem: &P, bytes: &[u8], mark: usize, ty: u8, place: usize) -> Result<Option<u8>, Fault>
+fn read_top<P: Declares>(
+    problem: &P,
+    bytes: &[u8],
+    mark: usize,
+    ty: u8,
+    place: usize,
+) -> Result<Option<u8>, Fault>
     requires { ⌜ place ≤ 16384 ⌝ }
     ensures exact { λ r. ⌜ r ≡ top-of (sig-of (declares (now (problem .entry)))) (now (bytes .entry)) mark ty place ⌝ }
     ensures within { λ r. ⌜ Topped place (length (now (bytes .entry))) r ⌝ }
@@ -43,7 +53,13 @@ fn read_top<P: Declares>(problem: &P, bytes: &[u8], mark: usize, ty: u8, place: 
 }
 
 // Where the value of the type `ty` ends that stands at a place, in the record with this mark.
-pub fn value_end<P: Declares>(problem: &P, bytes: &[u8], mark: usize, ty: u8, place: usize) -> Result<usize, Fault>
+pub fn value_end<P: Declares>(
+    problem: &P,
+    bytes: &[u8],
+    mark: usize,
+    ty: u8,
+    place: usize,
+) -> Result<usize, Fault>
     requires short { ⌜ length (now bytes) ≤ 16384 ⌝ }
     requires low { ⌜ place ≤ length (now bytes) ⌝ }
     ensures within { λ r. ⌜ Within place (length (now (bytes .entry))) r ⌝ }
@@ -51,12 +67,26 @@ pub fn value_end<P: Declares>(problem: &P, bytes: &[u8], mark: usize, ty: u8, pl
 {
     match read_top(problem, bytes, mark, ty, place)? {
         None => Ok(place + 1),
-        Some(constructor) => values_end(problem, bytes, mark, problem.argument_types(ty, constructor), 0, place + 3),
+        Some(constructor) => values_end(
+            problem,
+            bytes,
+            mark,
+            problem.argument_types(ty, constructor),
+            0,
+            place + 3,
+        ),
     }
 }
 
 // Where values end that stand one after another from a place on, of the types from `next` on.
-fn values_end<P: Declares>(problem: &P, bytes: &[u8], mark: usize, types: &[u8], next: usize, place: usize) -> Result<usize, Fault>
+fn values_end<P: Declares>(
+    problem: &P,
+    bytes: &[u8],
+    mark: usize,
+    types: &[u8],
+    next: usize,
+    place: usize,
+) -> Result<usize, Fault>
     requires short { ⌜ length (now bytes) ≤ 16384 ⌝ }
     requires few { ⌜ length (now types) ≤ 6 ⌝ }
     requires low { ⌜ place ≤ length (now bytes) ⌝ }
@@ -87,7 +117,14 @@ fn read_start(bytes: &[u8], number: usize, place: usize) -> Result<usize, Fault>
 }
 
 // Writes the places of the values, from an unknown's on, whose record starts at a place.
-pub fn read_places<P: Declares>(problem: &P, bytes: &[u8], types: &[u8], roots: &mut [u16], number: usize, place: usize) -> Result<(), Fault>
+pub fn read_places<P: Declares>(
+    problem: &P,
+    bytes: &[u8],
+    types: &[u8],
+    roots: &mut [u16],
+    number: usize,
+    place: usize,
+) -> Result<(), Fault>
     requires short { ⌜ length (now bytes) ≤ 16384 ⌝ }
     requires room { ⌜ length (now types) ≤ length (now roots) ⌝ }
     requires low { ⌜ place ≤ length (now bytes) ⌝ }

@@ -22,7 +22,7 @@ use Rattle.replay.specs.declared.faults.ReplayFault.the-variants.{Steps, Place
 use Rattle.replay.specs.Replays.{answer-of, whole, accepted}
 
 pub is-accepted : (p : Meaning) (bytes roots : List ℕ) (steps places n : ℕ) → 1 ≤ steps → steps ≤ 4096 → 6 * steps ≤ places → n ≡ length (p .goals)
-  → reading p bytes ≡ Ok roots → accepted p bytes steps places n ≡ Ok roots
+    → reading p bytes ≡ Ok roots → accepted p bytes steps places n ≡ Ok roots
 is-accepted p bytes roots steps places n low high room long ok =
     let three : Result (List ℕ) ReplayFault = whole (reading p bytes) in
     let two : Result (List ℕ) ReplayFault = cond (eqb n (length (p .goals))) three (Err AnswerLength) in
@@ -33,7 +33,7 @@ is-accepted p bytes roots steps places n low high room long ok =
     ∙ ap whole ok
 
 pub same-answer : (p : Problem) (bytes roots : List ℕ) (m : Model Problem) (steps g : ℕ) → Holds p bytes roots m
-  → answer-of (meant p) (decided-by (meant (now (m .problem))) (now (m .bytes)) (take (m .count) (m .roots))) steps g
+    → answer-of (meant p) (decided-by (meant (now (m .problem))) (now (m .bytes)) (take (m .count) (m .roots))) steps g
     ≡ answer-of (meant p) (decided-by (meant p) bytes roots) steps g
 same-answer p bytes roots m steps g h =
     ap (λ (q : Problem). answer-of (meant p) (decided-by (meant q) (now (m .bytes)) (take (m .count) (m .roots))) steps g) (h .problem-is)

@@ -480,7 +480,7 @@ head-of-term-returns-in-Equal g t c =
 
 pub head-of-term-returns-in-Nothing : need.head-of-term-returns-in-Nothing
 head-of-term-returns-in-Nothing g t c = record {
-      kept = kept-spare kept-refl;
-      few = tt;
-      heads = λ d t ρ le rt b. absurd (shown (c .args .problem .now) (c .args .place) view.Nothing (c .in-Nothing .ensures tt .shows) t rt);
-    }
+  kept = kept-spare kept-refl;
+  few = tt;
+  heads = λ d t ρ le rt b. absurd (shown (c .args .problem .now) (c .args .place) view.Nothing (c .in-Nothing .ensures tt .shows) t rt);
+}

@@ -22,7 +22,7 @@ returns g t c =
     record {
       same = λ i h. c .write-starts .ensures .same i (omega arith) ∙ (let ne : i ≢ c .args .next = omega arith in getD-set-other (c .args .children .now) (c .args .next) i _ 0 ne);
       starts = λ le. starts-more sig (c .args .bytes .now) (c .args .types .now) (c .write-starts .last .children) (c .args .next) (c .args .place) (c .next-start-end .result)
-        (omega arith) (omega (arith, c .write-starts .kept .children, length-set (c .args .children .now) (c .args .next) (c .args .place)))
-        (c .write-starts .ensures .same (c .args .next) (omega arith) ∙ getD-set-same (c .args .children .now) (c .args .next) _ 0 (omega arith))
-        (c .next-start-end .ensures .exact) (c .write-starts .ensures .starts (omega arith));
+          (omega arith) (omega (arith, c .write-starts .kept .children, length-set (c .args .children .now) (c .args .next) (c .args .place)))
+          (c .write-starts .ensures .same (c .args .next) (omega arith) ∙ getD-set-same (c .args .children .now) (c .args .next) _ 0 (omega arith))
+          (c .next-start-end .ensures .exact) (c .write-starts .ensures .starts (omega arith));
     }

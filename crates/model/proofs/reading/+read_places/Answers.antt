@@ -23,7 +23,7 @@ returns-then-place-bytes g t c =
     record {
       same = λ i h. refl;
       placed = places-after sig (c .args .bytes .now) (c .args .types .now) (c .args .number) (c .args .place) (omega arith) (omega arith)
-        ∙ ap (λ (e : Fault). Err e) (sym (c .at .ensures));
+          ∙ ap (λ (e : Fault). Err e) (sym (c .at .ensures));
     }
 
 pub returns-then-number-types : need.returns-then-number-types
@@ -43,7 +43,7 @@ returns-in-Break-value g t c =
       same = λ i h. refl;
       placed = subst (λ (r : Result (Unit {0}) Fault). Placed (places-from sig (c .args .bytes .now) (c .args .number) (drop (c .args .number) (c .args .types .now)) (c .args .place))
           (drop (c .args .number) (take (length (c .args .types .now)) (c .args .roots .now))) r) is
-        (places-no-start sig (c .args .bytes .now) (c .args .types .now) (c .args .number) (c .args .place) _ (omega arith) (c .in-Break-value .ensures tt .exact));
+          (places-no-start sig (c .args .bytes .now) (c .args .types .now) (c .args .number) (c .args .place) _ (omega arith) (c .in-Break-value .ensures tt .exact));
     }
 
 pub returns-in-Break-end : need.returns-in-Break-end
@@ -56,7 +56,7 @@ returns-in-Break-end g t c =
       same = λ i h. let ne : i ≢ c .args .number = omega arith in getD-set-other (c .args .roots .now) (c .args .number) i _ 0 ne;
       placed = subst (λ (r : Result (Unit {0}) Fault). Placed (places-from sig (c .args .bytes .now) (c .args .number) (drop (c .args .number) (c .args .types .now)) (c .args .place))
           (drop (c .args .number) (take (length (c .args .types .now)) roots)) r) is
-        (places-no-value sig (c .args .bytes .now) (c .args .types .now) (c .args .number) (c .args .place) (c .in-Continue-value .value) _ (omega arith)
+          (places-no-value sig (c .args .bytes .now) (c .args .types .now) (c .args .number) (c .args .place) (c .in-Continue-value .value) _ (omega arith)
           (c .in-Continue-value .ensures tt .exact) (c .in-Break-end .ensures tt .exact (length (c .args .bytes .now)) (omega arith)));
     }
 
@@ -66,6 +66,6 @@ returns g t c =
     record {
       same = λ i h. c .read-places .ensures .same i (omega arith) ∙ (let ne : i ≢ c .args .number = omega arith in getD-set-other (c .args .roots .now) (c .args .number) i _ 0 ne);
       placed = places-more sig (c .args .bytes .now) (c .args .types .now) (c .args .number) (c .args .place) (c .in-Continue-value .value) (c .in-Continue-end .end) (c .read-places .last .roots) (c .read-places .result)
-        (omega arith) (omega (arith, c .read-places .kept .roots, length-set (c .args .roots .now) (c .args .number) (c .in-Continue-value .value))) (c .in-Continue-value .ensures tt .exact) (c .in-Continue-end .ensures tt .exact (length (c .args .bytes .now)) (omega arith))
-        (c .read-places .ensures .same (c .args .number) (omega arith) ∙ getD-set-same (c .args .roots .now) (c .args .number) _ 0 (omega arith)) (c .read-places .ensures .placed);
+          (omega arith) (omega (arith, c .read-places .kept .roots, length-set (c .args .roots .now) (c .args .number) (c .in-Continue-value .value))) (c .in-Continue-value .ensures tt .exact) (c .in-Continue-end .ensures tt .exact (length (c .args .bytes .now)) (omega arith))
+          (c .read-places .ensures .same (c .args .number) (omega arith) ∙ getD-set-same (c .args .roots .now) (c .args .number) _ 0 (omega arith)) (c .read-places .ensures .placed);
     }

@@ -30,11 +30,11 @@ value-end-returns-in-None g t c =
     let sig : Sig = sig-of (g .P·Declares .declares (c .args .problem .now)) in
     let top = c .in-Continue-read-top .ensures tt in
     let low : c .args .place + 1 ≤ length (c .args .bytes .now) =
-          subst (λ (o : Option ℕ). Topped (c .args .place) (length (c .args .bytes .now)) (Ok o)) (c .in-None .is) (top .within) in
+    subst (λ (o : Option ℕ). Topped (c .args .place) (length (c .args .bytes .now)) (Ok o)) (c .in-None .is) (top .within) in
     record {
       within = (omega arith, low);
       exact = λ n deep. value-open n sig (c .args .bytes .now) (c .args .mark) (c .args .ty) (c .args .place) deep
-        (ap (λ (o : Option ℕ). Ok o) (sym (c .in-None .is)) ∙ top .exact);
+          (ap (λ (o : Option ℕ). Ok o) (sym (c .in-None .is)) ∙ top .exact);
     }
 
 pub value-end-returns-in-Some : need.value-end-returns-in-Some
@@ -42,11 +42,11 @@ value-end-returns-in-Some g t c =
     let sig : Sig = sig-of (g .P·Declares .declares (c .args .problem .now)) in
     let top = c .in-Continue-read-top .ensures tt in
     let low : c .args .place + 3 ≤ length (c .args .bytes .now) =
-          subst (λ (o : Option ℕ). Topped (c .args .place) (length (c .args .bytes .now)) (Ok o)) (c .in-Some .is) (top .within) in
+    subst (λ (o : Option ℕ). Topped (c .args .place) (length (c .args .bytes .now)) (Ok o)) (c .in-Some .is) (top .within) in
     record {
       within = within-later (c .args .place) (c .args .place + 3) (length (c .args .bytes .now)) (c .values-end .result) (omega arith) (c .values-end .ensures .within);
       exact = λ n deep. value-built n sig (c .args .bytes .now) (c .args .mark) (c .args .ty) (c .args .place) deep (c .in-Some .constructor) (c .argument-types .result .now) (c .values-end .result)
-        (ap (λ (o : Option ℕ). Ok o) (sym (c .in-Some .is)) ∙ top .exact) (c .argument-types .ensures .is) low (c .values-end .ensures .exact);
+          (ap (λ (o : Option ℕ). Ok o) (sym (c .in-Some .is)) ∙ top .exact) (c .argument-types .ensures .is) low (c .values-end .ensures .exact);
     }
 
 pub values-end-returns-then-next-types : need.values-end-returns-then-next-types
@@ -65,7 +65,7 @@ values-end-returns-in-Break-end g t c =
     record {
       within = subst (λ (r : Result ℕ Fault). Within (c .args .place) (length (c .args .bytes .now)) r) is tt;
       exact = λ n deep. sym is ∙ ends-fails (value-end n sig (c .args .bytes .now) (c .args .mark)) (c .args .types .now) (c .args .next) (c .args .place) _ (omega arith)
-        (c .in-Break-end .ensures tt .exact n deep);
+          (c .in-Break-end .ensures tt .exact n deep);
     }
 
 pub values-end-returns : need.values-end-returns
@@ -74,5 +74,5 @@ values-end-returns g t c =
     record {
       within = within-later (c .args .place) (c .in-Continue-end .end) (length (c .args .bytes .now)) (c .values-end .result) (c .in-Continue-end .ensures tt .within .0) (c .values-end .ensures .within);
       exact = λ n deep. ends-more (value-end n sig (c .args .bytes .now) (c .args .mark)) (c .args .types .now) (c .args .next) (c .args .place) (c .in-Continue-end .end) (c .values-end .result)
-        (omega arith) (c .in-Continue-end .ensures tt .exact n deep) (c .values-end .ensures .exact n (omega (arith, c .in-Continue-end .ensures tt .within)));
+          (omega arith) (c .in-Continue-end .ensures tt .exact n deep) (c .values-end .ensures .exact n (omega (arith, c .in-Continue-end .ensures tt .within)));
     }

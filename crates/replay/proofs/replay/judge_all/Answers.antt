@@ -14,6 +14,6 @@ pub loop-goal-again : need.loop-goal-again
 loop-goal-again g c =
     let lt : c .loop-goal .goal < length (c .loop-goal .answer) = omega arith in
     below-more (λ (k : ℕ). getD (set (c .loop-goal .answer) (c .loop-goal .goal) (c .byte .result)) k 0
-        ≡ answer-of (meant (c .args .problem .now)) (g .D·Decides .unknowns (c .args .decider .now)) (c .args .steps) k) (c .loop-goal .goal)
+    ≡ answer-of (meant (c .args .problem .now)) (g .D·Decides .unknowns (c .args .decider .now)) (c .args .steps) k) (c .loop-goal .goal)
     (λ k h. let ne : k ≢ c .loop-goal .goal = omega arith in getD-set-other (c .loop-goal .answer) (c .loop-goal .goal) k (c .byte .result) 0 ne ∙ c .loop-goal .inv k h)
     (getD-set-same (c .loop-goal .answer) (c .loop-goal .goal) (c .byte .result) 0 lt ∙ c .byte .ensures ∙ ap byte-of (c .judge-goal-judgement .ensures .judged))

@@ -10,7 +10,8 @@ pub returns : need.returns
 returns c =
     let p = c .args .problem .now in
     let r = c .in-Continue-model .ensures tt in
-    let long : length (c .args .answer .now) ≡ length (meant p .goals) = c .if-answer-goals .left ∙ c .goals .ensures in
-    (r .0,
-     is-accepted (meant p) (c .args .bytes .now) (r .0) (c .args .steps) (length (c .args .memory .now)) (length (c .args .answer .now)) (c .if-steps-lt1 .left) (c .if-steps-gt4096 .left) (c .if-memory-steps .left) long (r .1),
-     λ g h. c .judge-all .ensures g (omega (arith, c .judge-all .kept .answer)) ∙ same-answer p (c .args .bytes .now) (r .0) (c .in-Continue-model .model) (c .args .steps) g (r .2))
+    let long : length (c .args .answer .now) ≡ length (meant p .goals) = c .if-answer-goals .left ∙ c .goals .ensures in (
+      r .0,
+      is-accepted (meant p) (c .args .bytes .now) (r .0) (c .args .steps) (length (c .args .memory .now)) (length (c .args .answer .now)) (c .if-steps-lt1 .left) (c .if-steps-gt4096 .left) (c .if-memory-steps .left) long (r .1),
+      λ g h. c .judge-all .ensures g (omega (arith, c .judge-all .kept .answer)) ∙ same-answer p (c .args .bytes .now) (r .0) (c .in-Continue-model .model) (c .args .steps) g (r .2),
+    )

@@ -7,6 +7,6 @@ use Rattle.model.proofs.declares.ProblemDeclares.unknown_types.Needs as need
 
 pub returns : need.returns
 returns c = record {
-      is = c .unknowns .ensures;
-      few = subst (λ (ts : List ℕ). length ts ≤ 16) (sym (c .unknowns .ensures)) (lawful (c .args .self .now) .few-unknowns);
-    }
+  is = c .unknowns .ensures;
+  few = subst (λ (ts : List ℕ). length ts ≤ 16) (sym (c .unknowns .ensures)) (lawful (c .args .self .now) .few-unknowns);
+}
