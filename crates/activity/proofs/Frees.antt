@@ -17,5 +17,5 @@ free-more val lits d e some within old j le lt =
     ⊎-elim
     (λ same. let two : getD (set val v 2) u 0 ≡ 2 = ap (λ i. getD (set val v 2) i 0) same ∙ getD-set-same val v 2 0 within in omega arith)
     (λ ne. let later : d ≤ j = ⊎-elim (λ e. absurd (ne (ap (λ i. getD lits i 0 / 2) e))) (λ other. omega arith) (cases-eq j (d - 1)) in
-      subst (λ x. 1 < x) (sym (getD-set-other val v u 2 0 ne)) (old j later lt))
+    subst (λ x. 1 < x) (sym (getD-set-other val v u 2 0 ne)) (old j later lt))
     (cases-eq u v)

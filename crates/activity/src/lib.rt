@@ -56,7 +56,11 @@ fn child(o: &Order, i: usize) -> usize
     ensures { λ r. ⌜ i < r ⌝ }
 {
     let c = 2 * i + 1;
-    if c + 1 < o.size && c + 1 < 4096 && activity_of(o, o.heap[c + 1]) > activity_of(o, o.heap[c]) { c + 1 } else { c }
+    if c + 1 < o.size && c + 1 < 4096 && activity_of(o, o.heap[c + 1]) > activity_of(o, o.heap[c]) {
+        c + 1
+    } else {
+        c
+    }
 }
 
 // Moves the variable of the heap's top down, past the more active ones.
@@ -119,7 +123,11 @@ pub fn pick(o: &mut Order, t: &Trail) -> u16
     while o.size > 0 {
         let v = take_top(o);
         if v < 4096 && t.val[v as usize] > 1 {
-            return if o.phase[v as usize] == 1 { 2 * v } else { 2 * v + 1 };
+            return if o.phase[v as usize] == 1 {
+                2 * v
+            } else {
+                2 * v + 1
+            };
         }
     }
     65535

@@ -54,18 +54,21 @@ module _ (X : (ℕ → Bool) → Bool) (val lits marks : List ℕ) (d : ℕ) (s 
     pub decide-last : (k′ : ℕ) → m ≡ 0 → k′ ≡ i - 1 → Deciding X lits marks d (i - 1) (set buf m t) (m + 1) k′
     decide-last k′ none is =
         let le : m + i ≤ d = old .1 in
-        let first : getD (set buf m t) 0 0 ≡ t = ap (λ q. getD (set buf m t) q 0) (sym none) ∙ getD-set-same buf m t 0 lt in
-        (decide-held, omega arith, λ more. record {
-          before = omega arith;
-          decision = ap (λ q. getD marks q 0) is ∙ one;
-          follows = λ p x along.
-            let below : Along p lits (i - 1) = subst (Along p lits) is along in
-            ap (lit p) first ∙ ⊎-elim
-            (λ on. let w = old .0 p x (along-more p lits i some below on) in let in-m : w .0 < m = w .1 in let z : ⊥ = omega arith in absurd z)
-            (λ off. lit-on p t (getD lits (i - 1) 0) turn off)
-            (cases-bool (lit p (getD lits (i - 1) 0)));
-          first = (i - 1, omega arith, omega arith, subst (Turned (getD lits (i - 1) 0)) (sym first) turn);
-        })
+        let first : getD (set buf m t) 0 0 ≡ t = ap (λ q. getD (set buf m t) q 0) (sym none) ∙ getD-set-same buf m t 0 lt in (
+          decide-held,
+          omega arith,
+          λ more. record {
+            before = omega arith;
+            decision = ap (λ q. getD marks q 0) is ∙ one;
+            follows = λ p x along.
+                let below : Along p lits (i - 1) = subst (Along p lits) is along in
+                ap (lit p) first ∙ ⊎-elim
+                (λ on. let w = old .0 p x (along-more p lits i some below on) in let in-m : w .0 < m = w .1 in let z : ⊥ = omega arith in absurd z)
+                (λ off. lit-on p t (getD lits (i - 1) 0) turn off)
+                (cases-bool (lit p (getD lits (i - 1) 0)));
+            first = (i - 1, omega arith, omega arith, subst (Turned (getD lits (i - 1) 0)) (sym first) turn);
+          },
+        )
 
     pub decide-more : (k′ : ℕ) → 0 < m → k′ ≡ k → Deciding X lits marks d (i - 1) (set buf m t) (m + 1) k′
     decide-more k′ more is =
@@ -74,11 +77,11 @@ module _ (X : (ℕ → Bool) → Bool) (val lits marks : List ℕ) (d : ℕ) (s 
         let ne : 0 ≡ m → ⊥ = λ e. omega arith in
         let first : getD (set buf m t) 0 0 ≡ getD buf 0 0 = getD-set-other buf m 0 t 0 ne in
         let at-k : Place X lits marks d (set buf m t) k = record {
-            before = o .before;
-            decision = o .decision;
-            follows = λ p x along. ap (lit p) first ∙ o .follows p x along;
-            first = (o .first .0, o .first .1, o .first .2, subst (Turned (getD lits (o .first .0) 0)) (sym first) (o .first .3));
-          } in
+          before = o .before;
+          decision = o .decision;
+          follows = λ p x along. ap (lit p) first ∙ o .follows p x along;
+          first = (o .first .0, o .first .1, o .first .2, subst (Turned (getD lits (o .first .0) 0)) (sym first) (o .first .3));
+        } in
         (decide-held, omega arith, λ _. subst (Place X lits marks d (set buf m t)) (sym is) at-k)
 
 pub decided : (X : (ℕ → Bool) → Bool) (lits marks : List ℕ) (d i : ℕ) (buf : List ℕ) (m k : ℕ) → i ≡ 0 → d ≤ length buf → Deciding X lits marks d i buf m k → Jump X lits marks d buf m k

@@ -8,8 +8,8 @@ ghost use Rattle.implied.specs.Implied.{allowed, Pool, Off, Held, Turned};
 ghost use Rattle.trail.specs.Trails.{Dead};
 ghost use Rattle.trail.specs.Steps.{Steady};
 ghost use Rattle.analyze.specs.Analysis.{Wrong, Grows, Taken, Drawn, Opposed, Jump};
-use implied::at16;
 use implied::at8;
+use implied::at16;
 use implied::turned;
 use trail::Trail;
 
@@ -30,7 +30,19 @@ pub struct Cut {
 
 // Takes the clause `c` in: each of its literals is `l`, or off, or the opposite of one on the trail below `i`, which is then
 // seen.
-fn absorb(row: &[u16], pool: &[u16], starts: &[u32], count: usize, used: usize, off: &[u8], t: &Trail, seen: &mut [u8], c: u32, l: u16, i: usize) -> Took
+fn absorb(
+    row: &[u16],
+    pool: &[u16],
+    starts: &[u32],
+    count: usize,
+    used: usize,
+    off: &[u8],
+    t: &Trail,
+    seen: &mut [u8],
+    c: u32,
+    l: u16,
+    i: usize,
+) -> Took
     requires pools { ⌜ Pool (allowed (now row)) (now pool) (now starts) count used ⌝ }
     requires fits { ⌜ used ≤ length (now pool) ⌝ }
     requires offs { ⌜ Off (allowed (now row)) (now off) ⌝ }
@@ -72,7 +84,11 @@ fn absorb(row: &[u16], pool: &[u16], starts: &[u32], count: usize, used: usize, 
 
 // Returns 1 for a variable of the last level that was not seen before.
 fn newly(t: &Trail, v: usize, was: u8) -> u32 {
-    if was != 1 && at16(&t.level, v) == t.levels { 1 } else { 0 }
+    if was != 1 && at16(&t.level, v) == t.levels {
+        1
+    } else {
+        0
+    }
 }
 
 // Returns whether each other literal of the clause is off or seen: then taking it in adds nothing.
@@ -97,7 +113,19 @@ fn covered(pool: &[u16], starts: &[u32], off: &[u8], seen: &[u8], c: u32, l: u16
 
 // Takes the reason of the literal `l`, of the trail's place `i`, in where that is wanted: on the last level while another
 // literal of it is left, below where the reason adds nothing.
-fn attempt(row: &[u16], pool: &[u16], starts: &[u32], count: usize, used: usize, off: &[u8], t: &Trail, seen: &mut [u8], l: u16, i: usize, left: u32) -> Took
+fn attempt(
+    row: &[u16],
+    pool: &[u16],
+    starts: &[u32],
+    count: usize,
+    used: usize,
+    off: &[u8],
+    t: &Trail,
+    seen: &mut [u8],
+    l: u16,
+    i: usize,
+    left: u32,
+) -> Took
     requires pools { ⌜ Pool (allowed (now row)) (now pool) (now starts) count used ⌝ }
     requires fits { ⌜ used ≤ length (now pool) ⌝ }
     requires offs { ⌜ Off (allowed (now row)) (now off) ⌝ }
@@ -115,17 +143,34 @@ fn attempt(row: &[u16], pool: &[u16], starts: &[u32], count: usize, used: usize,
             return Took { code: 0, left: 0 };
         }
         let took = absorb(row, pool, starts, count, used, off, t, seen, c, l, i);
-        return Took { code: took.code, left: (left - 1).wrapping_add(took.left) };
+        return Took {
+            code: took.code,
+            left: (left - 1).wrapping_add(took.left),
+        };
     }
     if !covered(pool, starts, off, seen, c, l) {
         return Took { code: 0, left };
     }
     let took = absorb(row, pool, starts, count, used, off, t, seen, c, l, i);
-    Took { code: took.code, left: left.wrapping_add(took.left) }
+    Took {
+        code: took.code,
+        left: left.wrapping_add(took.left),
+    }
 }
 
 // Goes back over the trail, and writes a clause that every allowed way meets; the last literal first.
-fn walk(row: &[u16], pool: &[u16], starts: &[u32], count: usize, used: usize, off: &[u8], t: &Trail, left: u32, seen: &mut [u8], buf: &mut [u16]) -> Option<usize>
+fn walk(
+    row: &[u16],
+    pool: &[u16],
+    starts: &[u32],
+    count: usize,
+    used: usize,
+    off: &[u8],
+    t: &Trail,
+    left: u32,
+    seen: &mut [u8],
+    buf: &mut [u16],
+) -> Option<usize>
     requires pools { ⌜ Pool (allowed (now row)) (now pool) (now starts) count used ⌝ }
     requires fits { ⌜ used ≤ length (now pool) ⌝ }
     requires offs { ⌜ Off (allowed (now row)) (now off) ⌝ }
@@ -155,14 +200,37 @@ fn walk(row: &[u16], pool: &[u16], starts: &[u32], count: usize, used: usize, of
 }
 
 // Draws the clause that the clash with the clause `c` teaches.
-fn explain(row: &[u16], pool: &[u16], starts: &[u32], count: usize, used: usize, off: &[u8], t: &Trail, seen: &mut [u8], buf: &mut [u16], c: u32) -> Option<usize>
+fn explain(
+    row: &[u16],
+    pool: &[u16],
+    starts: &[u32],
+    count: usize,
+    used: usize,
+    off: &[u8],
+    t: &Trail,
+    seen: &mut [u8],
+    buf: &mut [u16],
+    c: u32,
+) -> Option<usize>
     requires pools { ⌜ Pool (allowed (now row)) (now pool) (now starts) count used ⌝ }
     requires fits { ⌜ used ≤ length (now pool) ⌝ }
     requires offs { ⌜ Off (allowed (now row)) (now off) ⌝ }
     requires within { ⌜ now t .len ≤ 4096 ⌝ }
     ensures { λ r. ⌜ Drawn (allowed (now (row .entry))) (now (buf .exit)) r ⌝ }
 {
-    let took = absorb(row, pool, starts, count, used, off, t, seen, c, 65535, t.len);
+    let took = absorb(
+        row,
+        pool,
+        starts,
+        count,
+        used,
+        off,
+        t,
+        seen,
+        c,
+        65535,
+        t.len,
+    );
     if took.code != 1 {
         return None;
     }
@@ -198,7 +266,11 @@ fn asserts(t: &Trail, buf: &[u16], m: usize, k: usize) -> bool
 
 // Returns the place of the decision after the level of the clause's second literal, or a place that the trail has not.
 fn target(t: &Trail, buf: &[u16], m: usize) -> usize {
-    let back = if m < 2 { 0 } else { at16(&t.level, (at16(buf, 1) / 2) as usize) };
+    let back = if m < 2 {
+        0
+    } else {
+        at16(&t.level, (at16(buf, 1) / 2) as usize)
+    };
     if back >= t.levels {
         return 65536;
     }
@@ -230,7 +302,18 @@ fn decisions(row: &[u16], t: &Trail, buf: &mut [u16]) -> Cut
 
 // Draws the clause that a clash teaches, and where to jump back to: 0 literals where no way is allowed. `c` is the clause
 // that is false, if it is in the pool.
-pub fn analyze(row: &[u16], pool: &[u16], starts: &[u32], count: usize, used: usize, off: &[u8], t: &Trail, seen: &mut [u8], buf: &mut [u16], c: u32) -> Cut
+pub fn analyze(
+    row: &[u16],
+    pool: &[u16],
+    starts: &[u32],
+    count: usize,
+    used: usize,
+    off: &[u8],
+    t: &Trail,
+    seen: &mut [u8],
+    buf: &mut [u16],
+    c: u32,
+) -> Cut
     requires pools { ⌜ Pool (allowed (now row)) (now pool) (now starts) count used ⌝ }
     requires fits { ⌜ used ≤ length (now pool) ⌝ }
     requires offs { ⌜ Off (allowed (now row)) (now off) ⌝ }

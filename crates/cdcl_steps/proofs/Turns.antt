@@ -34,15 +34,15 @@ module _ (X : (ℕ → Bool) → Bool) (t u v : Trail) (g : Grew (t .marks) (t .
   pub decided-less : (f l : ℕ) → Steady X u → Placed u v l 1 → measure f (v .marks) (v .len) < measure f (t .marks) (t .len)
   decided-less f l su p =
       rise-less f (subst (λ m. weight 4096 (take (u .len) (u .marks)) < weight 4096 (take (v .len) m)) (sym (p .marks))
-        (subst (λ d. weight 4096 (take (u .len) (u .marks)) < weight 4096 (take d (set (u .marks) (u .len) 1))) (sym (p .more))
-          (push-rises (u .marks) 4096 (u .len) (su .deep) (su .good) 1 (p .within) (omega arith))))
+      (subst (λ d. weight 4096 (take (u .len) (u .marks)) < weight 4096 (take d (set (u .marks) (u .len) 1))) (sym (p .more))
+      (push-rises (u .marks) 4096 (u .len) (su .deep) (su .good) 1 (p .within) (omega arith))))
 
   pub jumped-less : (f : ℕ) → Steady X u → Jumped u v → measure f (v .marks) (v .len) < measure f (t .marks) (t .len)
   jumped-less f su j =
       let room = su .room in
       rise-less f (subst (λ m. weight 4096 (take (u .len) (u .marks)) < weight 4096 (take (v .len) m)) (sym (j .marks))
-        (subst (λ d. weight 4096 (take (u .len) (u .marks)) < weight 4096 (take d (set (u .marks) (j .k) 2))) (sym (j .more))
-          (jump-rises (u .marks) 4096 (u .len) (su .deep) (su .good) (j .k) (omega arith) (j .before) (j .decision))))
+      (subst (λ d. weight 4096 (take (u .len) (u .marks)) < weight 4096 (take d (set (u .marks) (j .k) 2))) (sym (j .more))
+      (jump-rises (u .marks) 4096 (u .len) (su .deep) (su .good) (j .k) (omega arith) (j .before) (j .decision))))
 
 pub restart-less : (X : (ℕ → Bool) → Bool) (t v : Trail) (f h : ℕ) → Steady X t → 0 < f → h ≡ f - 1 → measure h (v .marks) (v .len) < measure f (t .marks) (t .len)
 restart-less X t v f h s some is =

@@ -21,6 +21,7 @@ use decisions::settle;
 use forget::forget;
 use implied::append;
 use implied::at16;
+use outcome::Next;
 use propagate::NONE;
 use propagate::Watches;
 use propagate::propagate;
@@ -28,7 +29,6 @@ use propagate::watch_all;
 use propagate::watch_first;
 use trail::Trail;
 use trail::push;
-use outcome::Next;
 
 mod kept;
 
@@ -50,11 +50,22 @@ fn glue_of(t: &Trail, buf: &[u16], m: usize, met: &mut [u32], clash: u32) -> u16
 // Returns whether a clause of `m` literals can be learned, so that there is room for what is added later.
 fn has_room(pool: &[u16], starts: &[u32], m: usize, tally: &Tally) -> bool {
     let wanted = tally.reserved.saturating_add(m);
-    tally.count < 2147483647 && pool.len().saturating_sub(tally.used) > wanted && starts.len().saturating_sub(tally.count) > tally.reserved / 3
+    tally.count < 2147483647
+        && pool.len().saturating_sub(tally.used) > wanted
+        && starts.len().saturating_sub(tally.count) > tally.reserved / 3
 }
 
 // Puts the drawn clause into the pool, if there is room. Returns its number, or NONE.
-fn learn(row: &[u16], pool: &mut [u16], starts: &mut [u32], buf: &[u16], m: usize, w: &mut Watches, tally: &mut Tally, glue: u16) -> u32
+fn learn(
+    row: &[u16],
+    pool: &mut [u16],
+    starts: &mut [u32],
+    buf: &[u16],
+    m: usize,
+    w: &mut Watches,
+    tally: &mut Tally,
+    glue: u16,
+) -> u32
     requires stocked { ⌜ Stocked (allowed (now row)) (now pool) (now starts) (now tally .count) (now tally .used) ⌝ }
     requires held { ⌜ ((p : ℕ → Bool) → allowed (now row) p ≡ true → Held p (now buf) m) ⌝ }
     requires short { ⌜ m ≤ length (now buf) ⌝ }
@@ -78,7 +89,20 @@ fn learn(row: &[u16], pool: &mut [u16], starts: &mut [u32], buf: &[u16], m: usiz
 
 // Draws what the clash teaches, jumps back and puts the clause's first literal on the trail. Returns false where no way is
 // allowed at all.
-pub fn backjump(row: &[u16], given: &[u16], pool: &mut [u16], starts: &mut [u32], off: &[u8], seen: &mut [u8], buf: &mut [u16], w: &mut Watches, t: &mut Trail, o: &mut Order, plan: &mut Plan, tally: &mut Tally) -> bool
+pub fn backjump(
+    row: &[u16],
+    given: &[u16],
+    pool: &mut [u16],
+    starts: &mut [u32],
+    off: &[u8],
+    seen: &mut [u8],
+    buf: &mut [u16],
+    w: &mut Watches,
+    t: &mut Trail,
+    o: &mut Order,
+    plan: &mut Plan,
+    tally: &mut Tally,
+) -> bool
     requires stocked { ⌜ Stocked (allowed (now row)) (now pool) (now starts) (now tally .count) (now tally .used) ⌝ }
     requires offs { ⌜ Off (allowed (now row)) (now off) ⌝ }
     requires steady { ⌜ Steady (allowed (now row)) (now t) ⌝ }
@@ -90,7 +114,18 @@ pub fn backjump(row: &[u16], given: &[u16], pool: &mut [u16], starts: &mut [u32]
     ensures planned { λ _. ⌜ Planned (now (given .entry)) (now (t .exit)) (now (plan .exit)) ⌝ }
     ensures jumped { λ r. ⌜ Jumps (now (row .entry)) (now (t .entry)) (now (t .exit)) r ⌝ }
 {
-    let cut = analyze(row, pool, starts, tally.count, tally.used, off, t, seen, buf, plan.clash);
+    let cut = analyze(
+        row,
+        pool,
+        starts,
+        tally.count,
+        tally.used,
+        off,
+        t,
+        seen,
+        buf,
+        plan.clash,
+    );
     if cut.m == 0 {
         return false;
     }
@@ -103,7 +138,19 @@ pub fn backjump(row: &[u16], given: &[u16], pool: &mut [u16], starts: &mut [u32]
 }
 
 // Propagates, and chooses what comes next.
-pub fn advance(row: &[u16], given: &[u16], pool: &[u16], starts: &[u32], off: &mut [u8], w: &mut Watches, t: &mut Trail, o: &mut Order, plan: &mut Plan, tally: &Tally, out: &mut [u8]) -> Next
+pub fn advance(
+    row: &[u16],
+    given: &[u16],
+    pool: &[u16],
+    starts: &[u32],
+    off: &mut [u8],
+    w: &mut Watches,
+    t: &mut Trail,
+    o: &mut Order,
+    plan: &mut Plan,
+    tally: &Tally,
+    out: &mut [u8],
+) -> Next
     requires stocked { ⌜ Stocked (allowed (now row)) (now pool) (now starts) (now tally .count) (now tally .used) ⌝ }
     requires offs { ⌜ Off (allowed (now row)) (now off) ⌝ }
     requires steady { ⌜ Steady (allowed (now row)) (now t) ⌝ }
@@ -131,11 +178,27 @@ pub fn advance(row: &[u16], given: &[u16], pool: &[u16], starts: &[u32], off: &m
 fn first_decision(t: &Trail) -> usize
     ensures { λ r. ⌜ r ≤ now (t .entry) .len ⌝ }
 {
-    if t.levels == 0 { t.len } else { (t.lim[0] as usize).min(t.len) }
+    if t.levels == 0 {
+        t.len
+    } else {
+        (t.lim[0] as usize).min(t.len)
+    }
 }
 
 // Begins anew behind the assumptions; once enough was learned, at the start, and forgets what is not worth keeping.
-pub fn restart(row: &[u16], given: &[u16], pool: &mut [u16], starts: &mut [u32], spare: &mut [u16], listed: &mut [u32], w: &mut Watches, t: &mut Trail, o: &mut Order, plan: &mut Plan, tally: &mut Tally)
+pub fn restart(
+    row: &[u16],
+    given: &[u16],
+    pool: &mut [u16],
+    starts: &mut [u32],
+    spare: &mut [u16],
+    listed: &mut [u32],
+    w: &mut Watches,
+    t: &mut Trail,
+    o: &mut Order,
+    plan: &mut Plan,
+    tally: &mut Tally,
+)
     requires stocked { ⌜ Stocked (allowed (now row)) (now pool) (now starts) (now tally .count) (now tally .used) ⌝ }
     requires steady { ⌜ Steady (allowed (now row)) (now t) ⌝ }
     requires planned { ⌜ Planned (now given) (now t) (now plan) ⌝ }
@@ -151,7 +214,18 @@ pub fn restart(row: &[u16], given: &[u16], pool: &mut [u16], starts: &mut [u32],
     }
     cut_back(row, given, t, o, plan, first);
     let window = 400 + tally.clashes / 12;
-    let left = forget(row, pool, starts, tally.count, tally.used, spare, listed, w, tally.clashes, window);
+    let left = forget(
+        row,
+        pool,
+        starts,
+        tally.count,
+        tally.used,
+        spare,
+        listed,
+        w,
+        tally.clashes,
+        window,
+    );
     tally.count = left.count;
     tally.used = left.used;
     tally.learned = left.learned;

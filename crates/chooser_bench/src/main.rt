@@ -79,14 +79,26 @@ fn ask<C: Chooser>(chooser: &mut C, assumptions: &[u16], score: Score) -> Score 
     let most = C::variables_most();
     let n = most.saturating_sub(left).min(32767) as usize;
     match chooser.ask(assumptions, &mut answer[0..n]) {
-        Ok(Answer::Yes) => Score { yes: score.yes.saturating_add(1), no: score.no, refused: score.refused },
-        Ok(Answer::No) => Score { yes: score.yes, no: score.no.saturating_add(1), refused: score.refused },
+        Ok(Answer::Yes) => Score {
+            yes: score.yes.saturating_add(1),
+            no: score.no,
+            refused: score.refused,
+        },
+        Ok(Answer::No) => Score {
+            yes: score.yes,
+            no: score.no.saturating_add(1),
+            refused: score.refused,
+        },
         Err(_) => refuse(score),
     }
 }
 
 fn refuse(score: Score) -> Score {
-    Score { yes: score.yes, no: score.no, refused: score.refused.saturating_add(1) }
+    Score {
+        yes: score.yes,
+        no: score.no,
+        refused: score.refused.saturating_add(1),
+    }
 }
 
 fn call<C: Chooser>(chooser: &mut C, line: &Line, score: Score) -> Score {
@@ -96,16 +108,35 @@ fn call<C: Chooser>(chooser: &mut C, line: &Line, score: Score) -> Score {
     }
     let literals = &line.literals[0..n];
     match line.call {
-        b'v' => if allot(chooser, line.number) { score } else { refuse(score) },
-        b'a' => if chooser.add(literals).is_ok() { score } else { refuse(score) },
+        b'v' => if allot(chooser, line.number) {
+            score
+        } else {
+            refuse(score)
+        },
+        b'a' => if chooser.add(literals).is_ok() {
+            score
+        } else {
+            refuse(score)
+        },
         b'q' => ask(chooser, literals, score),
         _ => score,
     }
 }
 
 fn play<C: Chooser>(chooser: &mut C, text: &[u8]) -> Score {
-    let mut line = Line { call: b'c', literals: [0; 4096], count: 0, number: 0, minus: false, digits: false };
-    let mut score = Score { yes: 0, no: 0, refused: 0 };
+    let mut line = Line {
+        call: b'c',
+        literals: [0; 4096],
+        count: 0,
+        number: 0,
+        minus: false,
+        digits: false,
+    };
+    let mut score = Score {
+        yes: 0,
+        no: 0,
+        refused: 0,
+    };
     for b in text {
         line.feed(*b);
         if *b == b'\n' {
@@ -116,7 +147,12 @@ fn play<C: Chooser>(chooser: &mut C, text: &[u8]) -> Score {
     score
 }
 
-fn report<C: Chooser>(rt: &LibcRuntime, chooser: &mut C, path: &str, text: &[u8]) -> io::Result<()> {
+fn report<C: Chooser>(
+    rt: &LibcRuntime,
+    chooser: &mut C,
+    path: &str,
+    text: &[u8],
+) -> io::Result<()> {
     let start = Instant::now(rt)?;
     let score = play(chooser, text);
     let took = start.elapsed(rt)?.as_micros();

@@ -38,9 +38,9 @@ module _ (given lits marks : List ℕ) (d next firm : ℕ) (o : Ordered given li
         few = o .few;
         assumed = λ i lt. let w = o .assumed i lt in let less : w .0 < firm = w .1 in (w .0, less, g .same-lits (w .0) (omega arith) ∙ w .2);
         decided = λ j lt one. ⊎-elim
-          (λ less. ⊎-elim (λ a. inl (a .0, a .1, g .same-lits j less ∙ a .2)) (λ b. inr b) (o .decided j less (sym (g .same-marks j less) ∙ one)))
-          (λ ge. let two = g .forced j ge lt in let z : ⊥ = omega arith in absurd z)
-          (cases-lt j d);
+            (λ less. ⊎-elim (λ a. inl (a .0, a .1, g .same-lits j less ∙ a .2)) (λ b. inr b) (o .decided j less (sym (g .same-marks j less) ∙ one)))
+            (λ ge. let two = g .forced j ge lt in let z : ⊥ = omega arith in absurd z)
+            (cases-lt j d);
       }
 
   pub ordered-cut : (k : ℕ) → k ≤ d → firm ≤ k → Ordered given lits marks k next firm
@@ -62,9 +62,9 @@ module _ (given lits marks : List ℕ) (d next firm : ℕ) (o : Ordered given li
         before = omega arith;
         few = omega arith;
         assumed = λ q less. ⊎-elim
-          (λ e. (i, on, is ∙ ap (λ k. getD given k 0) (sym e)))
-          (λ ne. let w = o .assumed q (omega arith) in let at : w .0 < firm = w .1 in (w .0, omega arith, w .2))
-          (cases-eq q next);
+            (λ e. (i, on, is ∙ ap (λ k. getD given k 0) (sym e)))
+            (λ ne. let w = o .assumed q (omega arith) in let at : w .0 < firm = w .1 in (w .0, omega arith, w .2))
+            (cases-eq q next);
         decided = λ j less one. ⊎-elim (λ a. inl a) (λ b. let all : next ≡ length given = b .0 in let z : ⊥ = omega arith in absurd z) (o .decided j less one);
       }
 
@@ -76,11 +76,11 @@ module _ (given lits marks : List ℕ) (d next firm : ℕ) (o : Ordered given li
         few = o .few;
         assumed = λ i lt. let w = o .assumed i lt in let less : w .0 < firm = w .1 in let ne : w .0 ≡ d → ⊥ = λ e. omega arith in (w .0, less, getD-set-other lits d (w .0) l 0 ne ∙ w .2);
         decided = λ j lt one. ⊎-elim
-          (λ e. let at : getD (set lits d l) j 0 ≡ l = ap (λ k. getD (set lits d l) k 0) e ∙ getD-set-same lits d l 0 in-lits in
+            (λ e. let at : getD (set lits d l) j 0 ≡ l = ap (λ k. getD (set lits d l) k 0) e ∙ getD-set-same lits d l 0 in-lits in
             let mk : getD (set marks d mark) j 0 ≡ mark = ap (λ k. getD (set marks d mark) k 0) e ∙ getD-set-same marks d mark 0 in-marks in
             ⊎-elim (λ two. let z : ⊥ = omega arith in absurd z) (λ h. ⊎-elim (λ a. inl (a .0, a .1, at ∙ a .2)) (λ all. inr (all, omega arith)) h) how)
-          (λ ne. let less : j < d = omega arith in ⊎-elim (λ a. inl (a .0, a .1, getD-set-other lits d j l 0 ne ∙ a .2)) (λ b. inr b) (o .decided j less (sym (getD-set-other marks d j mark 0 ne) ∙ one)))
-          (cases-eq j d);
+            (λ ne. let less : j < d = omega arith in ⊎-elim (λ a. inl (a .0, a .1, getD-set-other lits d j l 0 ne ∙ a .2)) (λ b. inr b) (o .decided j less (sym (getD-set-other marks d j mark 0 ne) ∙ one)))
+            (cases-eq j d);
       }
 
 -- a way that is allowed and meets the assumptions is along the trail
@@ -91,12 +91,12 @@ module _ (X : (ℕ → Bool) → Bool) (val lits marks given : List ℕ) (d next
       let below : Along p lits k = along-to k (omega arith) in
       ⊎-elim
       (λ e. subst (λ j. lit p (getD lits j 0) ≡ true) (sym e) (⊎-elim
-        (λ one. ⊎-elim
-          (λ a. ap (lit p) (a .2) ∙ every-at (lit p) given (a .0) g (a .1))
-          (λ b. let all : next ≡ length given = b .0 in let z : ⊥ = omega arith in absurd z)
-          (o .decided k (omega arith) one))
-        (λ other. s .grounded k (omega arith) other p x below)
-        (cases-eq (getD marks k 0) 1)))
+      (λ one. ⊎-elim
+      (λ a. ap (lit p) (a .2) ∙ every-at (lit p) given (a .0) g (a .1))
+      (λ b. let all : next ≡ length given = b .0 in let z : ⊥ = omega arith in absurd z)
+      (o .decided k (omega arith) one))
+      (λ other. s .grounded k (omega arith) other p x below)
+      (cases-eq (getD marks k 0) 1)))
       (λ ne. below i (omega arith))
       (cases-eq i k)
 
@@ -118,5 +118,5 @@ ordered-placed given t u next firm l mark long deep p how o =
     let within = p .within in
     subst (λ z. Ordered given z (u .marks) (u .len) next firm) (sym (p .lits))
     (subst (λ z. Ordered given (set (t .lits) (t .len) l) z (u .len) next firm) (sym (p .marks))
-      (subst (λ z. Ordered given (set (t .lits) (t .len) l) (set (t .marks) (t .len) mark) z next firm) (sym (p .more))
-        (ordered-push given (t .lits) (t .marks) (t .len) next firm o l mark (omega arith) (omega arith) how)))
+    (subst (λ z. Ordered given (set (t .lits) (t .len) l) (set (t .marks) (t .len) mark) z next firm) (sym (p .more))
+    (ordered-push given (t .lits) (t .marks) (t .len) next firm o l mark (omega arith) (omega arith) how)))

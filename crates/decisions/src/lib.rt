@@ -13,17 +13,17 @@ ghost use Rattle.decisions.specs.Plans.{Planned, Assumed, Chosen};
 use activity::Order;
 use activity::pick;
 use activity::unwind;
-use implied::at32;
 use implied::at8;
+use implied::at32;
 use implied::fix;
 use implied::turned;
+use outcome::Next;
+use outcome::conclude;
 use propagate::NONE;
 use trail::Trail;
 use trail::clear;
 use trail::push;
 use trail::value;
-use outcome::Next;
-use outcome::conclude;
 
 mod kept;
 
@@ -55,7 +55,16 @@ fn put_known(row: &[u16], off: &[u8], t: &mut Trail, l: u16)
 }
 
 // Marks the literals of the trail behind the plan's `fixed` known, while nothing is decided.
-pub fn settle(row: &[u16], pool: &[u16], starts: &[u32], count: usize, used: usize, off: &mut [u8], t: &Trail, plan: &mut Plan)
+pub fn settle(
+    row: &[u16],
+    pool: &[u16],
+    starts: &[u32],
+    count: usize,
+    used: usize,
+    off: &mut [u8],
+    t: &Trail,
+    plan: &mut Plan,
+)
     requires pools { ⌜ Pool (allowed (now row)) (now pool) (now starts) count used ⌝ }
     requires fits { ⌜ used ≤ length (now pool) ⌝ }
     requires offs { ⌜ Off (allowed (now row)) (now off) ⌝ }
@@ -68,7 +77,16 @@ pub fn settle(row: &[u16], pool: &[u16], starts: &[u32], count: usize, used: usi
     }
     for j in plan.fixed..t.len {
         let l = t.lits[j];
-        fix(row, pool, starts, count, used, off, at32(&t.reason, (l / 2) as usize), l);
+        fix(
+            row,
+            pool,
+            starts,
+            count,
+            used,
+            off,
+            at32(&t.reason, (l / 2) as usize),
+            l,
+        );
     }
     plan.fixed = t.len;
 }
@@ -98,7 +116,14 @@ fn assume(row: &[u16], given: &[u16], t: &Trail, plan: &mut Plan) -> Next
 }
 
 // Chooses what to decide; where nothing is left to decide, holds the values against the clauses.
-pub fn choose(row: &[u16], given: &[u16], t: &Trail, o: &mut Order, plan: &mut Plan, out: &mut [u8]) -> Next
+pub fn choose(
+    row: &[u16],
+    given: &[u16],
+    t: &Trail,
+    o: &mut Order,
+    plan: &mut Plan,
+    out: &mut [u8],
+) -> Next
     requires steady { ⌜ Steady (allowed (now row)) (now t) ⌝ }
     requires few { ⌜ length (now out) ≤ 4096 ⌝ }
     requires sound { ⌜ inside (length (now out)) 0 (now row) ≡ true ⌝ }

@@ -53,7 +53,20 @@ fn copy32(from: &[u32], to: &mut [u32], n: usize)
 }
 
 // Carries the clause into the spare pool, of which `left` is filled, if it is worth it.
-fn carry_worth(row: &[u16], pool: &[u16], starts: &[u32], count: usize, used: usize, c: usize, spare: &mut [u16], listed: &mut [u32], w: &mut Watches, time: u32, window: u32, left: Left) -> Left
+fn carry_worth(
+    row: &[u16],
+    pool: &[u16],
+    starts: &[u32],
+    count: usize,
+    used: usize,
+    c: usize,
+    spare: &mut [u16],
+    listed: &mut [u32],
+    w: &mut Watches,
+    time: u32,
+    window: u32,
+    left: Left,
+) -> Left
     requires pools { ⌜ Pool (allowed (now row)) (now pool) (now starts) count used ⌝ }
     requires fits { ⌜ used ≤ length (now pool) ⌝ }
     requires spares { ⌜ Pool (allowed (now row)) (now spare) (now listed) (left .count) (left .used) ⌝ }
@@ -62,37 +75,110 @@ fn carry_worth(row: &[u16], pool: &[u16], starts: &[u32], count: usize, used: us
     if left.count >= 4294967295 || !is_worth(w, c, time, window) {
         return left;
     }
-    let size = carry(row, pool, starts, count, used, c, spare, listed, left.count, left.used);
+    let size = carry(
+        row,
+        pool,
+        starts,
+        count,
+        used,
+        c,
+        spare,
+        listed,
+        left.count,
+        left.used,
+    );
     if size == 0 {
         return left;
     }
     let more = renumber(w, c, left.count);
-    Left { count: left.count + 1, used: left.used + size, learned: left.learned.saturating_add(more) }
+    Left {
+        count: left.count + 1,
+        used: left.used + size,
+        learned: left.learned.saturating_add(more),
+    }
 }
 
 // Carries the clauses that are worth it into the spare pool.
-fn sift(row: &[u16], pool: &[u16], starts: &[u32], count: usize, used: usize, spare: &mut [u16], listed: &mut [u32], w: &mut Watches, time: u32, window: u32) -> Left
+fn sift(
+    row: &[u16],
+    pool: &[u16],
+    starts: &[u32],
+    count: usize,
+    used: usize,
+    spare: &mut [u16],
+    listed: &mut [u32],
+    w: &mut Watches,
+    time: u32,
+    window: u32,
+) -> Left
     requires pools { ⌜ Pool (allowed (now row)) (now pool) (now starts) count used ⌝ }
     requires fits { ⌜ used ≤ length (now pool) ⌝ }
     ensures { λ r. ⌜ Pool (allowed (now (row .entry))) (now (spare .exit)) (now (listed .exit)) (r .count) (r .used) ⌝ }
 {
-    let mut left = Left { count: 0, used: 0, learned: 0 };
+    let mut left = Left {
+        count: 0,
+        used: 0,
+        learned: 0,
+    };
     for c in 0..count {
-        left = carry_worth(row, pool, starts, count, used, c, spare, listed, w, time, window, left);
+        left = carry_worth(
+            row,
+            pool,
+            starts,
+            count,
+            used,
+            c,
+            spare,
+            listed,
+            w,
+            time,
+            window,
+            left,
+        );
     }
     left
 }
 
 // Forgets the learned clauses that are not worth keeping. The others get new numbers.
-pub fn forget(row: &[u16], pool: &mut [u16], starts: &mut [u32], count: usize, used: usize, spare: &mut [u16], listed: &mut [u32], w: &mut Watches, time: u32, window: u32) -> Left
+pub fn forget(
+    row: &[u16],
+    pool: &mut [u16],
+    starts: &mut [u32],
+    count: usize,
+    used: usize,
+    spare: &mut [u16],
+    listed: &mut [u32],
+    w: &mut Watches,
+    time: u32,
+    window: u32,
+) -> Left
     requires pools { ⌜ Pool (allowed (now row)) (now pool) (now starts) count used ⌝ }
     requires fits { ⌜ used ≤ length (now pool) ⌝ }
     ensures pools { λ r. ⌜ Pool (allowed (now (row .entry))) (now (pool .exit)) (now (starts .exit)) (r .count) (r .used) ⌝ }
     ensures fits { λ r. ⌜ r .used ≤ length (now (pool .exit)) ⌝ }
 {
-    let left = sift(row, pool, starts, count, used, spare, listed, w, time, window);
-    if left.used > spare.len() || left.used > pool.len() || left.count > listed.len() || left.count > starts.len() {
-        return Left { count, used, learned: 0 };
+    let left = sift(
+        row,
+        pool,
+        starts,
+        count,
+        used,
+        spare,
+        listed,
+        w,
+        time,
+        window,
+    );
+    if left.used > spare.len()
+        || left.used > pool.len()
+        || left.count > listed.len()
+        || left.count > starts.len()
+    {
+        return Left {
+            count,
+            used,
+            learned: 0,
+        };
     }
     copy16(spare, pool, left.used);
     copy32(listed, starts, left.count);

@@ -23,9 +23,9 @@ opposite : (p : ℕ → Bool) (a b : ℕ) → Turned b a → lit p a ≡ not (li
 opposite p a b t =
     ⊎-elim
     (λ e. let o : b % 2 ≡ 0 → ⊥ = λ z. let same : a ≡ b = omega (arith, t .0) in t .1 same in
-      lit-even p a e ∙ ap p (t .0) ∙ twice (p (b / 2)) ∙ ap not (sym (lit-odd p b o)))
+    lit-even p a e ∙ ap p (t .0) ∙ twice (p (b / 2)) ∙ ap not (sym (lit-odd p b o)))
     (λ ne. let e : b % 2 ≡ 0 = ⊎-elim (λ z. z) (λ z. let same : a ≡ b = omega (arith, t .0) in absurd (t .1 same)) (cases-eq (b % 2) 0) in
-      lit-odd p a ne ∙ ap (λ k. not (p k)) (t .0) ∙ ap not (sym (lit-even p b e)))
+    lit-odd p a ne ∙ ap (λ k. not (p k)) (t .0) ∙ ap not (sym (lit-even p b e)))
     (cases-eq (a % 2) 0)
 
 pub lit-off : (p : ℕ → Bool) (a b : ℕ) → Turned b a → lit p b ≡ true → lit p a ≡ false

@@ -22,11 +22,11 @@ known-kept X a b used more s same le h =
     record {
       fits = omega arith;
       says = λ p x.
-        let w = h .says p x in
-        let lt : w .0 < getD a s 0 = w .1 in
-        let in-b : w .0 < getD b s 0 = omega arith in
-        let at : s + 1 + w .0 < used = omega arith in
-        (w .0, in-b, ap (lit p) (same (s + 1 + w .0) at) ∙ w .2);
+          let w = h .says p x in
+          let lt : w .0 < getD a s 0 = w .1 in
+          let in-b : w .0 < getD b s 0 = omega arith in
+          let at : s + 1 + w .0 < used = omega arith in
+          (w .0, in-b, ap (lit p) (same (s + 1 + w .0) at) ∙ w .2);
     }
 
 pub pool-kept : (X : (ℕ → Bool) → Bool) (a b r t : List ℕ) (count used more : ℕ) → Below used a b → Below count r t → used ≤ more → Pool X a r count used → Pool X b t count more

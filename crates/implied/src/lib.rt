@@ -47,7 +47,16 @@ pub fn mark_true(row: &[u16], off: &mut [u8], l: u16)
 }
 
 // Marks the literal `l` known true, if the clause `c` shows it: each other literal of the clause is off.
-pub fn fix(row: &[u16], pool: &[u16], starts: &[u32], count: usize, used: usize, off: &mut [u8], c: u32, l: u16)
+pub fn fix(
+    row: &[u16],
+    pool: &[u16],
+    starts: &[u32],
+    count: usize,
+    used: usize,
+    off: &mut [u8],
+    c: u32,
+    l: u16,
+)
     requires pools { ⌜ Pool (allowed (now row)) (now pool) (now starts) count used ⌝ }
     requires fits { ⌜ used ≤ length (now pool) ⌝ }
     requires offs { ⌜ Off (allowed (now row)) (now off) ⌝ }
@@ -73,7 +82,15 @@ pub fn fix(row: &[u16], pool: &[u16], starts: &[u32], count: usize, used: usize,
 
 // Puts the first `m` literals of `buf` into the pool, as a clause. Returns false where it has no room, and then leaves what
 // the pool holds.
-pub fn append(row: &[u16], pool: &mut [u16], starts: &mut [u32], count: usize, used: usize, buf: &[u16], m: usize) -> bool
+pub fn append(
+    row: &[u16],
+    pool: &mut [u16],
+    starts: &mut [u32],
+    count: usize,
+    used: usize,
+    buf: &[u16],
+    m: usize,
+) -> bool
     requires pools { ⌜ Pool (allowed (now row)) (now pool) (now starts) count used ⌝ }
     requires held { ⌜ ((p : ℕ → Bool) → allowed (now row) p ≡ true → Held p (now buf) m) ⌝ }
     requires short { ⌜ m ≤ length (now buf) ⌝ }
@@ -81,7 +98,12 @@ pub fn append(row: &[u16], pool: &mut [u16], starts: &mut [u32], count: usize, u
     ensures fits { λ r. ⌜ (r ≡ true → used + (m + 1) ≤ length (now (pool .entry))) ⌝ }
     ensures more { λ r. ⌜ (r ≡ true → Pool (allowed (now (row .entry))) (now (pool .exit)) (now (starts .exit)) (count + 1) (used + (m + 1))) ⌝ }
 {
-    if count >= starts.len() || m > 65535 || used > 4294967294 || used > pool.len() || pool.len() - used <= m {
+    if count >= starts.len()
+        || m > 65535
+        || used > 4294967294
+        || used > pool.len()
+        || pool.len() - used <= m
+    {
         return false;
     }
     starts[count] = used as u32;
@@ -93,7 +115,18 @@ pub fn append(row: &[u16], pool: &mut [u16], starts: &mut [u32], count: usize, u
 }
 
 // Puts the clause `c` of one pool into another, which is then `next`. Returns false where there is no such clause, or no room.
-pub fn carry(row: &[u16], pool: &[u16], starts: &[u32], count: usize, used: usize, c: usize, next: &mut [u16], listed: &mut [u32], kept: usize, taken: usize) -> usize
+pub fn carry(
+    row: &[u16],
+    pool: &[u16],
+    starts: &[u32],
+    count: usize,
+    used: usize,
+    c: usize,
+    next: &mut [u16],
+    listed: &mut [u32],
+    kept: usize,
+    taken: usize,
+) -> usize
     requires pools { ⌜ Pool (allowed (now row)) (now pool) (now starts) count used ⌝ }
     requires fits { ⌜ used ≤ length (now pool) ⌝ }
     requires nexts { ⌜ Pool (allowed (now row)) (now next) (now listed) kept taken ⌝ }
@@ -109,5 +142,17 @@ pub fn carry(row: &[u16], pool: &[u16], starts: &[u32], count: usize, used: usiz
         return 0;
     }
     let len = pool[s] as usize;
-    if append(row, next, listed, kept, taken, &pool[s + 1..s + 1 + len], len) { len + 1 } else { 0 }
+    if append(
+        row,
+        next,
+        listed,
+        kept,
+        taken,
+        &pool[s + 1..s + 1 + len],
+        len,
+    ) {
+        len + 1
+    } else {
+        0
+    }
 }

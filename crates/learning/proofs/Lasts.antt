@@ -39,9 +39,11 @@ module _ (pool : List ℕ) (s len : ℕ) (within : s + 1 + len ≤ length pool) 
 
 module _ (X : (ℕ → Bool) → Bool) (pool starts : List ℕ) (count used : ℕ) where
   pub stocked-from : used ≤ length pool → Lying pool starts count used → Lasting X pool starts count → Stocked X pool starts count used
-  stocked-from le lies h =
-      (λ c lt. let s = getD starts c 0 in let fit : s + 1 + getD pool s 0 ≤ used = lies c lt in
-        record { fits = fit; says = λ p x. to-literal pool s (getD pool s 0) (omega arith) p (h c p (and-from (ltb c count) (X p) (lt-ltb c count lt) x)) }, le)
+  stocked-from le lies h = (
+    λ c lt. let s = getD starts c 0 in let fit : s + 1 + getD pool s 0 ≤ used = lies c lt in
+        record { fits = fit; says = λ p x. to-literal pool s (getD pool s 0) (omega arith) p (h c p (and-from (ltb c count) (X p) (lt-ltb c count lt) x)) },
+    le,
+  )
 
   pub lying-from : Stocked X pool starts count used → Lying pool starts count used
   lying-from h c lt = h .0 c lt .fits
@@ -67,7 +69,7 @@ module _ (row row′ pool pool′ starts starts′ : List ℕ) (count used : ℕ
   stocked-here le lies h =
       subst (λ r. Stocked (allowed r) pool′ starts′ count used) (sym rows)
       (subst (λ z. Stocked (allowed row) z starts′ count used) (sym pools)
-        (subst (λ z. Stocked (allowed row) pool z count used) (sym listed) (stocked-from (allowed row) pool starts count used le lies h)))
+      (subst (λ z. Stocked (allowed row) pool z count used) (sym listed) (stocked-from (allowed row) pool starts count used le lies h)))
 
   pub lying-here : Stocked (allowed row) pool starts count used → Lying pool′ starts′ count used
   lying-here h =
@@ -78,7 +80,7 @@ module _ (row row′ pool pool′ starts starts′ : List ℕ) (count used : ℕ
   lasting-here h =
       subst (λ r. Lasting (allowed r) pool′ starts′ count) (sym rows)
       (subst (λ z. Lasting (allowed row) z starts′ count) (sym pools)
-        (subst (λ z. Lasting (allowed row) pool z count) (sym listed) (lasting-from (allowed row) pool starts count used h)))
+      (subst (λ z. Lasting (allowed row) pool z count) (sym listed) (lasting-from (allowed row) pool starts count used h)))
 
 module _ (row row′ off off′ : List ℕ) (rows : row′ ≡ row) (offs : off′ ≡ off) where
   pub off-here : Known-off (allowed row) off → Off (allowed row′) off′

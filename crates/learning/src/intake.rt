@@ -14,7 +14,14 @@ use propagate::Watches;
 use propagate::watch_first;
 
 // Puts the clause into the pool, if there is room.
-fn pool_clause(row: &[u16], clause: &[u16], pool: &mut [u16], starts: &mut [u32], w: &mut Watches, tally: &mut Tally)
+fn pool_clause(
+    row: &[u16],
+    clause: &[u16],
+    pool: &mut [u16],
+    starts: &mut [u32],
+    w: &mut Watches,
+    tally: &mut Tally,
+)
     requires stocked { ⌜ Stocked (allowed (now row)) (now pool) (now starts) (now tally .count) (now tally .used) ⌝ }
     requires says { ⌜ ((p : ℕ → Bool) → allowed (now row) p ≡ true → some (lit p) (now clause) ≡ true) ⌝ }
     ensures { λ _. ⌜ Stocked (allowed (now (row .entry))) (now (pool .exit)) (now (starts .exit)) (now (tally .exit) .count) (now (tally .exit) .used) ⌝ }
@@ -30,7 +37,15 @@ fn pool_clause(row: &[u16], clause: &[u16], pool: &mut [u16], starts: &mut [u32]
 }
 
 // Takes the clause in: a literal alone is known true. Returns whether no way is allowed, as far as that shows at once.
-pub fn take_in(row: &[u16], clause: &[u16], pool: &mut [u16], starts: &mut [u32], off: &mut [u8], w: &mut Watches, tally: &mut Tally) -> bool
+pub fn take_in(
+    row: &[u16],
+    clause: &[u16],
+    pool: &mut [u16],
+    starts: &mut [u32],
+    off: &mut [u8],
+    w: &mut Watches,
+    tally: &mut Tally,
+) -> bool
     requires stocked { ⌜ Stocked (allowed (now row)) (now pool) (now starts) (now tally .count) (now tally .used) ⌝ }
     requires offs { ⌜ Off (allowed (now row)) (now off) ⌝ }
     requires says { ⌜ ((p : ℕ → Bool) → allowed (now row) p ≡ true → some (lit p) (now clause) ≡ true) ⌝ }

@@ -21,6 +21,7 @@ pub struct Space {
 
 // Room for learned clauses: numbers, and clauses.
 const LEARNED: usize = 262144;
+
 const CLAUSES: usize = 16384;
 
 fn new_watches(heap: Global, clauses: usize) -> Result<Watches, AllocError> {
@@ -32,7 +33,15 @@ fn new_watches(heap: Global, clauses: usize) -> Result<Watches, AllocError> {
     let heat = vec![in heap; 0u32; clauses]?;
     let glue = vec![in heap; 0u16; clauses]?;
     let met = vec![in heap; 0u32; 4097]?;
-    Ok(Watches { head, next, watch, from, heat, glue, met })
+    Ok(Watches {
+        head,
+        next,
+        watch,
+        from,
+        heat,
+        glue,
+        met,
+    })
 }
 
 fn new_trail(heap: Global) -> Result<Box<Trail>, AllocError> {
@@ -51,7 +60,14 @@ fn new_trail(heap: Global) -> Result<Box<Trail>, AllocError> {
 }
 
 fn new_order(heap: Global) -> Result<Box<Order>, AllocError> {
-    let o = Order { heap: [0; 4096], size: 0, place: [0; 4096], act: [0; 4096], step: 65536, phase: [0; 4096] };
+    let o = Order {
+        heap: [0; 4096],
+        size: 0,
+        place: [0; 4096],
+        act: [0; 4096],
+        step: 65536,
+        phase: [0; 4096],
+    };
     Ok(Box::new(heap, o)?)
 }
 
@@ -77,6 +93,15 @@ impl Space {
         let seen = vec![in heap; 0u8; 4096]?;
         let trail = new_trail(heap)?;
         let order = new_order(heap)?;
-        Ok(Space { pool, starts, spare, listed, watches, seen, trail, order })
+        Ok(Space {
+            pool,
+            starts,
+            spare,
+            listed,
+            watches,
+            seen,
+            trail,
+            order,
+        })
     }
 }

@@ -44,13 +44,13 @@ pub refuted-from : (val out : List ℕ) (l : ℕ) → Copied val out (l / 2) →
 refuted-from val out l c lt shut off =
     ⊎-elim
     (λ e. let w : written out (l / 2) ≡ false = sym (cond-true (eqb (l % 2) 0) (written out (l / 2)) (not (written out (l / 2))) (eq-eqb (l % 2) 0 e)) ∙ off in
-      let ne : getD val (l / 2) 0 ≡ 1 → ⊥ = copied-none val out (l / 2) c w in
-      let low : getD val (l / 2) 0 ≤ 1 = ⊎-elim (λ h. absurd (shut h)) (λ h. h) (cases-lt 1 (getD val (l / 2) 0)) in
-      let zero-value : getD val (l / 2) 0 ≡ 0 = ⊎-elim (λ z. z) (λ z. let one : getD val (l / 2) 0 ≡ 1 = omega arith in absurd (ne one)) (cases-eq (getD val (l / 2) 0) 0) in
-      (lt, zero-value ∙ sym e))
+    let ne : getD val (l / 2) 0 ≡ 1 → ⊥ = copied-none val out (l / 2) c w in
+    let low : getD val (l / 2) 0 ≤ 1 = ⊎-elim (λ h. absurd (shut h)) (λ h. h) (cases-lt 1 (getD val (l / 2) 0)) in
+    let zero-value : getD val (l / 2) 0 ≡ 0 = ⊎-elim (λ z. z) (λ z. let one : getD val (l / 2) 0 ≡ 1 = omega arith in absurd (ne one)) (cases-eq (getD val (l / 2) 0) 0) in
+    (lt, zero-value ∙ sym e))
     (λ o. let w : not (written out (l / 2)) ≡ false = sym (cond-false (eqb (l % 2) 0) (written out (l / 2)) (not (written out (l / 2))) (ne-eqb (l % 2) 0 o)) ∙ off in
-      let one : getD val (l / 2) 0 ≡ 1 = copied-one val out (l / 2) c (not-false (written out (l / 2)) w) in
-      (lt, omega arith))
+    let one : getD val (l / 2) 0 ≡ 1 = copied-one val out (l / 2) c (not-false (written out (l / 2)) w) in
+    (lt, omega arith))
     (cases-eq (l % 2) 0)
 
 module _ (X : (ℕ → Bool) → Bool) (val lits marks : List ℕ) (d : ℕ) (s : Sound X val lits marks d) where
@@ -102,10 +102,10 @@ module _ (row : List ℕ) (v s : ℕ) (lt : s < length row) (whole : inside v 0 
       record {
         fits = clause-fits;
         says = λ p x.
-          let met = and-parts (some (lit p) (take (getD row s 0) (drop (s + 1) row))) (holds (lit p) true 0 (drop (s + (getD row s 0 + 1)) row)) (sym (clause-holds (lit p)) ∙ reach (lit p) x) .0 in
-          let w = some-index (lit p) (take (getD row s 0) (drop (s + 1) row)) met in
-          let less : w .0 < getD row s 0 = let h = w .1 in omega (arith, size) in
-          (w .0, less, ap (lit p) (sym (at (w .0) less)) ∙ w .2);
+            let met = and-parts (some (lit p) (take (getD row s 0) (drop (s + 1) row))) (holds (lit p) true 0 (drop (s + (getD row s 0 + 1)) row)) (sym (clause-holds (lit p)) ∙ reach (lit p) x) .0 in
+            let w = some-index (lit p) (take (getD row s 0) (drop (s + 1) row)) met in
+            let less : w .0 < getD row s 0 = let h = w .1 in omega (arith, size) in
+            (w .0, less, ap (lit p) (sym (at (w .0) less)) ∙ w .2);
       }
     where
       some-index : (f : ℕ → Bool) (c : List ℕ) → some f c ≡ true → (k : ℕ) × (k < length c) × (f (getD c k 0) ≡ true)

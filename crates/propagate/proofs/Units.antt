@@ -50,8 +50,8 @@ onward-push X t u l true s after p =
     record {
       steady = after;
       grew = subst (λ m. Grew (t .marks) (t .lits) (t .len) m (u .lits) (u .len)) (sym (p .marks))
-        (subst (λ m. Grew (t .marks) (t .lits) (t .len) (set (t .marks) (t .len) 2) m (u .len)) (sym (p .lits))
-        (subst (λ m. Grew (t .marks) (t .lits) (t .len) (set (t .marks) (t .len) 2) (set (t .lits) (t .len) l) m) (sym (p .more))
-        (grew-push X (t .val) (t .lits) (t .marks) (t .len) s l 2 (p .within) refl (t .marks) (t .lits) (t .len) (grew-none (t .marks) (t .lits) (t .len)))));
+          (subst (λ m. Grew (t .marks) (t .lits) (t .len) (set (t .marks) (t .len) 2) m (u .len)) (sym (p .lits))
+          (subst (λ m. Grew (t .marks) (t .lits) (t .len) (set (t .marks) (t .len) 2) (set (t .lits) (t .len) l) m) (sym (p .more))
+          (grew-push X (t .val) (t .lits) (t .marks) (t .len) s l 2 (p .within) refl (t .marks) (t .lits) (t .len) (grew-none (t .marks) (t .lits) (t .len)))));
     }
 onward-push X t u l false s after p = subst (Onward X t) (sym (p .0)) (onward-none X t s)

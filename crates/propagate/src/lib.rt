@@ -63,7 +63,17 @@ fn scan(pool: &[u16], from: usize, to: usize, t: &Trail, other: u16) -> usize
 
 // Visits the clause `c`, of which the literals watched are `other` and one that is false. Puts `other` on the trail where the
 // other literals are false. The search for another literal begins where the last one ended.
-fn visit_clause(row: &[u16], pool: &[u16], starts: &[u32], count: usize, used: usize, from: &mut [u16], t: &mut Trail, c: u32, other: u16) -> Visit
+fn visit_clause(
+    row: &[u16],
+    pool: &[u16],
+    starts: &[u32],
+    count: usize,
+    used: usize,
+    from: &mut [u16],
+    t: &mut Trail,
+    c: u32,
+    other: u16,
+) -> Visit
     requires pools { ⌜ Pool (allowed (now row)) (now pool) (now starts) count used ⌝ }
     requires fits { ⌜ used ≤ length (now pool) ⌝ }
     requires steady { ⌜ Steady (allowed (now row)) (now t) ⌝ }
@@ -119,7 +129,19 @@ fn unlink(head: &mut [u32], next: &mut [u32], l: u16, before: u32, after: u32) {
 }
 
 // Visits the clauses that watch the literal `l`, which became false. Returns the clause that is false, or NONE.
-fn visit_all(row: &[u16], pool: &[u16], starts: &[u32], count: usize, used: usize, head: &mut [u32], next: &mut [u32], watch: &mut [u16], from: &mut [u16], t: &mut Trail, l: u16) -> u32
+fn visit_all(
+    row: &[u16],
+    pool: &[u16],
+    starts: &[u32],
+    count: usize,
+    used: usize,
+    head: &mut [u32],
+    next: &mut [u32],
+    watch: &mut [u16],
+    from: &mut [u16],
+    t: &mut Trail,
+    l: u16,
+) -> u32
     requires pools { ⌜ Pool (allowed (now row)) (now pool) (now starts) count used ⌝ }
     requires fits { ⌜ used ≤ length (now pool) ⌝ }
     requires steady { ⌜ Steady (allowed (now row)) (now t) ⌝ }
@@ -154,7 +176,16 @@ fn visit_all(row: &[u16], pool: &[u16], starts: &[u32], count: usize, used: usiz
 }
 
 // Follows the literals of the trail from the place `q` on. Returns the clause that is false, or NONE.
-pub fn propagate(row: &[u16], pool: &[u16], starts: &[u32], count: usize, used: usize, w: &mut Watches, t: &mut Trail, q: usize) -> u32
+pub fn propagate(
+    row: &[u16],
+    pool: &[u16],
+    starts: &[u32],
+    count: usize,
+    used: usize,
+    w: &mut Watches,
+    t: &mut Trail,
+    q: usize,
+) -> u32
     requires pools { ⌜ Pool (allowed (now row)) (now pool) (now starts) count used ⌝ }
     requires fits { ⌜ used ≤ length (now pool) ⌝ }
     requires steady { ⌜ Steady (allowed (now row)) (now t) ⌝ }
@@ -164,7 +195,19 @@ pub fn propagate(row: &[u16], pool: &[u16], starts: &[u32], count: usize, used: 
     while q < t.len {
         let l = turned(t.lits[q]);
         q += 1;
-        let clash = visit_all(row, pool, starts, count, used, w.head.as_mut_slice(), w.next.as_mut_slice(), w.watch.as_mut_slice(), w.from.as_mut_slice(), t, l);
+        let clash = visit_all(
+            row,
+            pool,
+            starts,
+            count,
+            used,
+            w.head.as_mut_slice(),
+            w.next.as_mut_slice(),
+            w.watch.as_mut_slice(),
+            w.from.as_mut_slice(),
+            t,
+            l,
+        );
         if clash != NONE {
             return clash;
         }
@@ -186,8 +229,20 @@ pub fn watch_first(pool: &[u16], starts: &[u32], w: &mut Watches, c: usize, now:
 
 fn watch_two(w: &mut Watches, c: u32, a: u16, b: u16) {
     if c < 2147483647 {
-        link(w.head.as_mut_slice(), w.next.as_mut_slice(), w.watch.as_mut_slice(), 2 * c, a);
-        link(w.head.as_mut_slice(), w.next.as_mut_slice(), w.watch.as_mut_slice(), 2 * c + 1, b);
+        link(
+            w.head.as_mut_slice(),
+            w.next.as_mut_slice(),
+            w.watch.as_mut_slice(),
+            2 * c,
+            a,
+        );
+        link(
+            w.head.as_mut_slice(),
+            w.next.as_mut_slice(),
+            w.watch.as_mut_slice(),
+            2 * c + 1,
+            b,
+        );
     }
 }
 

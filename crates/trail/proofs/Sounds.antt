@@ -45,27 +45,27 @@ module _ (X : (ℕ → Bool) → Bool) (val lits marks : List ℕ) (d : ℕ) (s 
           long = length-set lits d l ∙ long;
           deep = length-set marks d mark ∙ deep;
           grounded = λ j less no-decision p here along. ⊎-elim
-            (λ e. let last : j ≡ d = e in
+              (λ e. let last : j ≡ d = e in
               let at : getD (set lits d l) j 0 ≡ l = ap (λ i. getD (set lits d l) i 0) last ∙ getD-set-same lits d l 0 (omega arith) in
               let mk : getD (set marks d mark) j 0 ≡ mark = ap (λ i. getD (set marks d mark) i 0) last ∙ getD-set-same marks d mark 0 (omega arith) in
               ap (lit p) at ∙ ⊎-elim (λ one. absurd (no-decision (mk ∙ one))) (λ two. two .1 p here (subst (Along p lits) last (along-same p lits (set lits d l) j (below-set lits d l j (omega arith)) along))) marked)
-            (λ ne. let in-d : j < d = omega arith in
+              (λ ne. let in-d : j < d = omega arith in
               ap (lit p) (getD-set-other lits d j l 0 ne) ∙ s .grounded j in-d (λ one. no-decision (getD-set-other marks d j mark 0 ne ∙ one)) p here (along-same p lits (set lits d l) j (below-set lits d l j (omega arith)) along))
-            (cases-eq j d);
+              (cases-eq j d);
           shown = λ u in-range low. ⊎-elim
-            (λ e. let same : getD (set val (l / 2) x) u 0 ≡ x = ap (λ i. getD (set val (l / 2) x) i 0) e ∙ getD-set-same val (l / 2) x 0 (omega arith) in
+              (λ e. let same : getD (set val (l / 2) x) u 0 ≡ x = ap (λ i. getD (set val (l / 2) x) i 0) e ∙ getD-set-same val (l / 2) x 0 (omega arith) in
               let is : getD (set lits d l) d 0 ≡ l = getD-set-same lits d l 0 (omega arith) in
               (d, omega arith, omega arith))
-            (λ ne. let same : getD (set val (l / 2) x) u 0 ≡ getD val u 0 = getD-set-other val (l / 2) u x 0 ne in
+              (λ ne. let same : getD (set val (l / 2) x) u 0 ≡ getD val u 0 = getD-set-other val (l / 2) u x 0 ne in
               let w = s .shown u in-range (subst (λ y. y < 2) same low) in
               let less : w .0 < d = w .1 in
               let apart : w .0 ≡ d → ⊥ = λ q. omega arith in
               (w .0, omega arith, getD-set-other lits d (w .0) l 0 apart ∙ w .2 ∙ ap (λ y. 2 * u + (1 - y)) (sym same)))
-            (cases-eq u (l / 2));
+              (cases-eq u (l / 2));
           named = λ j less. ⊎-elim
-            (λ e. subst (λ y. y < 8192) (sym (ap (λ i. getD (set lits d l) i 0) e ∙ getD-set-same lits d l 0 (omega arith))) (omega arith))
-            (λ ne. subst (λ y. y < 8192) (sym (getD-set-other lits d j l 0 ne)) (s .named j (omega arith)))
-            (cases-eq j d);
+              (λ e. subst (λ y. y < 8192) (sym (ap (λ i. getD (set lits d l) i 0) e ∙ getD-set-same lits d l 0 (omega arith))) (omega arith))
+              (λ ne. subst (λ y. y < 8192) (sym (getD-set-other lits d j l 0 ne)) (s .named j (omega arith)))
+              (cases-eq j d);
           good = push-good marks 4096 d deep (s .good) mark lt (digit-ltb mark digit);
           room = let r = s .room in let o = opens-less val (l / 2) x free (omega arith) in omega arith;
         }
@@ -87,16 +87,16 @@ module _ (X : (ℕ → Bool) → Bool) (val lits marks : List ℕ) (d : ℕ) (s 
           deep = deep;
           grounded = λ j lt. s .grounded j (omega arith);
           shown = λ u in-range low. ⊎-elim
-            (λ e. let two : getD (set val (top / 2) 2) u 0 ≡ 2 = ap (λ i. getD (set val (top / 2) 2) i 0) e ∙ getD-set-same val (top / 2) 2 0 (omega arith) in
+              (λ e. let two : getD (set val (top / 2) 2) u 0 ≡ 2 = ap (λ i. getD (set val (top / 2) 2) i 0) e ∙ getD-set-same val (top / 2) 2 0 (omega arith) in
               let z : ⊥ = omega arith in absurd z)
-            (λ ne. let same : getD (set val (top / 2) 2) u 0 ≡ getD val u 0 = getD-set-other val (top / 2) u 2 0 ne in
+              (λ ne. let same : getD (set val (top / 2) 2) u 0 ≡ getD val u 0 = getD-set-other val (top / 2) u 2 0 ne in
               let w = s .shown u in-range (subst (λ y. y < 2) same low) in
               let less : w .0 < d = w .1 in
               let is : getD lits (w .0) 0 ≡ 2 * u + (1 - getD val u 0) = w .2 in
               let apart : w .0 ≡ d - 1 → ⊥ = λ q. let here : top ≡ getD lits (w .0) 0 = ap (λ i. getD lits i 0) (sym q) in let half : u ≡ top / 2 = omega arith in ne half in
               let before : w .0 < d - 1 = ⊎-elim (λ q. absurd (apart q)) (λ q. omega arith) (cases-eq (w .0) (d - 1)) in
               (w .0, before, is ∙ ap (λ y. 2 * u + (1 - y)) (sym same)))
-            (cases-eq u (top / 2));
+              (cases-eq u (top / 2));
           named = λ j lt. s .named j (omega arith);
           good = cut-good marks 4096 d deep (s .good) (d - 1) (omega arith) (omega arith);
           room = let o = opens-set val (top / 2) 2 in omega arith;
@@ -113,9 +113,9 @@ module _ (X : (ℕ → Bool) → Bool) (val lits marks : List ℕ) (d : ℕ) (s 
         same-marks = λ k less. let ne : k ≡ d → ⊥ = λ e. omega arith in getD-set-other marks d k mark 0 ne ∙ g .same-marks k less;
         same-lits = λ k less. let ne : k ≡ d → ⊥ = λ e. omega arith in getD-set-other lits d k l 0 ne ∙ g .same-lits k less;
         forced = λ j le less. ⊎-elim
-          (λ e. ap (λ i. getD (set marks d mark) i 0) e ∙ getD-set-same marks d mark 0 (omega arith) ∙ two)
-          (λ ne. getD-set-other marks d j mark 0 ne ∙ g .forced j le (omega arith))
-          (cases-eq j d);
+            (λ e. ap (λ i. getD (set marks d mark) i 0) e ∙ getD-set-same marks d mark 0 (omega arith) ∙ two)
+            (λ ne. getD-set-other marks d j mark 0 ne ∙ g .forced j le (omega arith))
+            (cases-eq j d);
         up = omega arith;
       }
 

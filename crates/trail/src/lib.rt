@@ -71,11 +71,19 @@ pub fn push(row: &[u16], t: &mut Trail, l: u16, mark: u8, why: u32) -> bool
 }
 
 fn raised(levels: u16, mark: u8) -> u16 {
-    if mark == 1 && levels < 4096 { levels + 1 } else { levels }
+    if mark == 1 && levels < 4096 {
+        levels + 1
+    } else {
+        levels
+    }
 }
 
 fn lowered(levels: u16, mark: u8) -> u16 {
-    if mark == 1 && levels > 0 { levels - 1 } else { levels }
+    if mark == 1 && levels > 0 {
+        levels - 1
+    } else {
+        levels
+    }
 }
 
 // Takes the last literal back, and returns it.

@@ -23,6 +23,11 @@ loop-t-again c =
     let here : getD (t .lits) (d - 1) 0 ≡ getD lits (d - 1) 0 = ap (λ z. getD z (d - 1) 0) same in
     let within : getD lits (d - 1) 0 / 2 < length (t .val) = omega arith in
     let value : c .pop-l .last .t .val ≡ set (t .val) (getD lits (d - 1) 0 / 2) 2 = p .val ∙ ap (λ z. set (t .val) (z / 2) 2) at in
-    let high : d ≤ e = c .loop-t .inv .5 in
-    (c .pop-l .ensures .steady, omega arith, p .lits ∙ same, p .marks ∙ c .loop-t .inv .3,
-      λ j le lt. subst (λ z. Free z (getD lits j 0)) (sym value) (free-more (t .val) lits d e more within (c .loop-t .inv .4) j (omega arith) lt), omega arith)
+    let high : d ≤ e = c .loop-t .inv .5 in (
+      c .pop-l .ensures .steady,
+      omega arith,
+      p .lits ∙ same,
+      p .marks ∙ c .loop-t .inv .3,
+      λ j le lt. subst (λ z. Free z (getD lits j 0)) (sym value) (free-more (t .val) lits d e more within (c .loop-t .inv .4) j (omega arith) lt),
+      omega arith,
+    )

@@ -22,11 +22,13 @@ loop-i-again-then-t-i-eq1 c =
     let room = c .pre .steady .room in
     let some = c .loop-i-test .taken in
     let le : l .m + l .i ≤ t .len = l .inv .0 .1 in
-    let lt : l .m < length (l .buf) = omega arith in
-    (elim (c .if-m-eq0 .came) [
-      then-m-eq0 w ↦ decide-last X (t .val) (t .lits) (t .marks) (t .len) (c .pre .steady) (l .i) (l .buf) (l .m) (l .k) some (l .inv .0) (c .turned .result) (c .turned .ensures) lt (c .if-t-i-eq1 .taken) (c .if-m-eq0 .k) (w .if-m-eq0 .taken) (w .k-is)
-    | else-m-eq0 w ↦ decide-more X (t .val) (t .lits) (t .marks) (t .len) (c .pre .steady) (l .i) (l .buf) (l .m) (l .k) some (l .inv .0) (c .turned .result) (c .turned .ensures) lt (c .if-t-i-eq1 .taken) (c .if-m-eq0 .k) (let ne = w .if-m-eq0 .left in omega arith) (w .k-is) ],
-      length-set (l .buf) (l .m) (c .turned .result) ∙ wide)
+    let lt : l .m < length (l .buf) = omega arith in (
+      elim (c .if-m-eq0 .came) [
+        | then-m-eq0 w ↦ decide-last X (t .val) (t .lits) (t .marks) (t .len) (c .pre .steady) (l .i) (l .buf) (l .m) (l .k) some (l .inv .0) (c .turned .result) (c .turned .ensures) lt (c .if-t-i-eq1 .taken) (c .if-m-eq0 .k) (w .if-m-eq0 .taken) (w .k-is)
+        | else-m-eq0 w ↦ decide-more X (t .val) (t .lits) (t .marks) (t .len) (c .pre .steady) (l .i) (l .buf) (l .m) (l .k) some (l .inv .0) (c .turned .result) (c .turned .ensures) lt (c .if-t-i-eq1 .taken) (c .if-m-eq0 .k) (let ne = w .if-m-eq0 .left in omega arith) (w .k-is)
+      ],
+      length-set (l .buf) (l .m) (c .turned .result) ∙ wide,
+    )
 
 pub returns : need.returns
 returns c =

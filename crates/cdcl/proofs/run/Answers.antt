@@ -18,9 +18,12 @@ turn-again-in-Decide c =
     let v = c .push .last .t in
     let plan = c .advance .last .plan in
     let chosen = c .in-Decide .ensures tt .chosen in
-    let p = placed-from u v (c .in-Decide .l) 1 (c .push .result) (c .push .ensures .pushed) (chosen .0) .1 in
-    (c .turn .inv .0, c .advance .ensures .offs, c .push .ensures .steady,
-      ordered-placed (c .args .given .now) u v (plan .next) (plan .firm) (c .in-Decide .l) 1 (c .advance .ensures .steady .long) (c .advance .ensures .steady .deep) p (inr (chosen .1)) (c .advance .ensures .planned))
+    let p = placed-from u v (c .in-Decide .l) 1 (c .push .result) (c .push .ensures .pushed) (chosen .0) .1 in (
+      c .turn .inv .0,
+      c .advance .ensures .offs,
+      c .push .ensures .steady,
+      ordered-placed (c .args .given .now) u v (plan .next) (plan .firm) (c .in-Decide .l) 1 (c .advance .ensures .steady .long) (c .advance .ensures .steady .deep) p (inr (chosen .1)) (c .advance .ensures .planned),
+    )
 
 pub turn-less-in-Decide : need.turn-less-in-Decide
 turn-less-in-Decide c =

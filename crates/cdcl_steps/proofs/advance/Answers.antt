@@ -13,7 +13,7 @@ replanned : (given : List ℕ) (t u : Trail) (a b : Plan) → b .next ≡ a .nex
 replanned given t u a b next firm g o =
     subst (λ n. Ordered given (u .lits) (u .marks) (u .len) n (b .firm)) (sym next)
     (subst (λ f. Ordered given (u .lits) (u .marks) (u .len) (a .next) f) (sym firm)
-      (ordered-grew given (t .lits) (t .marks) (t .len) (a .next) (a .firm) o (u .lits) (u .marks) (u .len) g))
+    (ordered-grew given (t .lits) (t .marks) (t .len) (a .next) (a .firm) o (u .lits) (u .marks) (u .len) g))
 
 pub returns-then-clash : need.returns-then-clash
 returns-then-clash c =

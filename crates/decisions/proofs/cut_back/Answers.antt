@@ -14,7 +14,7 @@ moved : (given : List ℕ) (t u : Trail) (k next firm : ℕ) → Kept t u k → 
 moved given t u k next firm kept o =
     subst (λ z. Ordered given z (u .marks) (u .len) next firm) (sym (kept .lits))
     (subst (λ z. Ordered given (t .lits) z (u .len) next firm) (sym (kept .marks))
-      (subst (λ z. Ordered given (t .lits) (t .marks) z next firm) (sym (kept .cut)) o))
+    (subst (λ z. Ordered given (t .lits) (t .marks) z next firm) (sym (kept .cut)) o))
 
 pub returns-else-k-plan : need.returns-else-k-plan
 returns-else-k-plan c =

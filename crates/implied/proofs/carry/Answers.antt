@@ -19,8 +19,8 @@ append-requires c κs =
     record {
       pools = c .pre .nexts;
       held = λ p x.
-        let w = known .says p x in
-        let lt : w .0 < len = w .1 in
-        (w .0, lt, ap (lit p) (getD-take wide (drop (s + 1) pool) (w .0) 0 (omega arith) ∙ getD-drop (s + 1) pool (w .0) 0) ∙ w .2);
+          let w = known .says p x in
+          let lt : w .0 < len = w .1 in
+          (w .0, lt, ap (lit p) (getD-take wide (drop (s + 1) pool) (w .0) 0 (omega arith) ∙ getD-drop (s + 1) pool (w .0) 0) ∙ w .2);
       short = omega (arith, length-take-le wide (drop (s + 1) pool) whole);
     }

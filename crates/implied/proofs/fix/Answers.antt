@@ -17,8 +17,9 @@ loop-k-again c =
     let m = getD pool (s + 1 + c .loop-k .k) 0 in
     below-more (λ q. (p : ℕ → Bool) → allowed (c .args .row .now) p ≡ true → lit p (getD pool (s + 1 + q) 0) ≡ true → lit p (c .args .l) ≡ true) (c .loop-k .k) (c .loop-k .inv)
     (λ p x on. elim (c .else-m-l .came) [
-      else-m-l·by·then-m-l·else-at8-ne1 w ↦ absurd (both-ways (lit p m) (c .pre .offs m (sym (w .at8 .ensures) ∙ w .if-at8-ne1 .left) p x) on)
-    | else-m-l·by·else-m-l w ↦ subst (λ k. lit p k ≡ true) (w .if-m-l .left) on ])
+      | else-m-l·by·then-m-l·else-at8-ne1 w ↦ absurd (both-ways (lit p m) (c .pre .offs m (sym (w .at8 .ensures) ∙ w .if-at8-ne1 .left) p x) on)
+      | else-m-l·by·else-m-l w ↦ subst (λ k. lit p k ≡ true) (w .if-m-l .left) on
+    ])
 
 pub mark-true-requires : need.mark-true-requires
 mark-true-requires c κs =

@@ -37,10 +37,12 @@ loop-s-again c =
     let lt = c .loop-s-test .taken in
     let whole = c .loop-s .inv .1 in
     let fit = clause-fits row (length out) s lt whole in
-    let on = ap (λ k. some (lit (written out)) (take k (drop (s + 1) row))) (sym (width s len)) ∙ sym (c .meets .ensures) ∙ c .if-not-meets .left in
-    (omega arith, behind-inside row (length out) s lt whole,
+    let on = ap (λ k. some (lit (written out)) (take k (drop (s + 1) row))) (sym (width s len)) ∙ sym (c .meets .ensures) ∙ c .if-not-meets .left in (
+      omega arith,
+      behind-inside row (length out) s lt whole,
       λ f h. and-parts (some f (take len (drop (s + 1) row))) (holds f true 0 (drop (s + (len + 1)) row)) (sym (clause-holds row (length out) s lt whole f) ∙ c .loop-s .inv .2 f h) .1,
-      λ h. c .loop-s .inv .3 (clause-holds row (length out) s lt whole (lit (written out)) ∙ and-from (some (lit (written out)) (take len (drop (s + 1) row))) (holds (lit (written out)) true 0 (drop (s + (len + 1)) row)) on h))
+      λ h. c .loop-s .inv .3 (clause-holds row (length out) s lt whole (lit (written out)) ∙ and-from (some (lit (written out)) (take len (drop (s + 1) row))) (holds (lit (written out)) true 0 (drop (s + (len + 1)) row)) on h),
+    )
 
 pub returns : need.returns
 returns c =

@@ -24,8 +24,11 @@ push-requires c κs =
     let top-2 = c .scan-i-2 .ensures .high in
     record {
       steady = c .pre .steady;
-      marked = inr (refl, unit-follows (allowed (c .args .row .now)) (t .val) (t .lits) (t .marks) (t .len) (c .pre .steady) pool (c .args .used) s (c .args .other) (c .pre .pools (c .args .c) (c .if-at-count .left))
-        (joined (λ i. (getD pool i 0 ≡ c .args .other) ⊎ Refuted (t .val) (getD pool i 0)) (s + 1) (c .min-mid .result) (s + 1 + getD pool s 0) (c .scan-i-2 .ensures .none (omega arith)) (c .scan-i .ensures .none (omega arith))));
+      marked = inr (
+        refl,
+        unit-follows (allowed (c .args .row .now)) (t .val) (t .lits) (t .marks) (t .len) (c .pre .steady) pool (c .args .used) s (c .args .other) (c .pre .pools (c .args .c) (c .if-at-count .left))
+            (joined (λ i. (getD pool i 0 ≡ c .args .other) ⊎ Refuted (t .val) (getD pool i 0)) (s + 1) (c .min-mid .result) (s + 1 + getD pool s 0) (c .scan-i-2 .ensures .none (omega arith)) (c .scan-i .ensures .none (omega arith))),
+      );
     }
 
 pub returns-then-is-false : need.returns-then-is-false
@@ -36,11 +39,12 @@ returns-then-is-false c =
     let last = c .if-i-end .left in
     let top = c .scan-i .ensures .high in
     let last-2 = c .if-i-mid .left in
-    let top-2 = c .scan-i-2 .ensures .high in
-    (onward-none (allowed (c .args .row .now)) t (c .pre .steady),
+    let top-2 = c .scan-i-2 .ensures .high in (
+      onward-none (allowed (c .args .row .now)) t (c .pre .steady),
       clash-dead (allowed (c .args .row .now)) (t .val) (t .lits) (t .marks) (t .len) (c .pre .steady) pool (c .args .used) s (c .args .other) (c .pre .pools (c .args .c) (c .if-at-count .left))
-        (joined (λ i. (getD pool i 0 ≡ c .args .other) ⊎ Refuted (t .val) (getD pool i 0)) (s + 1) (c .min-mid .result) (s + 1 + getD pool s 0) (c .scan-i-2 .ensures .none (omega arith)) (c .scan-i .ensures .none (omega arith)))
-        (c .is-false .ensures (c .if-is-false .taken)))
+          (joined (λ i. (getD pool i 0 ≡ c .args .other) ⊎ Refuted (t .val) (getD pool i 0)) (s + 1) (c .min-mid .result) (s + 1 + getD pool s 0) (c .scan-i-2 .ensures .none (omega arith)) (c .scan-i .ensures .none (omega arith)))
+          (c .is-false .ensures (c .if-is-false .taken)),
+    )
 
 pub returns : need.returns
 returns c = onward-push (allowed (c .args .row .now)) (c .args .t .now) (c .push .last .t) (c .args .other) (c .push .result) (c .pre .steady) (c .push .ensures .steady) (c .push .ensures .pushed)

@@ -17,11 +17,15 @@ pub loop-v-again : need.loop-v-again
 loop-v-again c =
     let l = c .loop-v in
     let wide = l .inv .1 in
-    let within : l .v < length (l .t .val) = omega arith in
-    (below-more (λ q. getD (set (l .t .val) (l .v) 2) q 0 ≡ 2) (l .v)
-      (λ q lt. let ne : q ≡ l .v → ⊥ = λ e. omega arith in getD-set-other (l .t .val) (l .v) q 2 0 ne ∙ l .inv .0 q lt)
-      (getD-set-same (l .t .val) (l .v) 2 0 within),
-      length-set (l .t .val) (l .v) 2 ∙ wide, l .inv .2, l .inv .3, l .inv .4)
+    let within : l .v < length (l .t .val) = omega arith in (
+      below-more (λ q. getD (set (l .t .val) (l .v) 2) q 0 ≡ 2) (l .v)
+          (λ q lt. let ne : q ≡ l .v → ⊥ = λ e. omega arith in getD-set-other (l .t .val) (l .v) q 2 0 ne ∙ l .inv .0 q lt)
+          (getD-set-same (l .t .val) (l .v) 2 0 within),
+      length-set (l .t .val) (l .v) 2 ∙ wide,
+      l .inv .2,
+      l .inv .3,
+      l .inv .4,
+    )
 
 pub returns : need.returns
 returns c =

@@ -45,15 +45,43 @@ ghost-self-2 c =
     let offs = refilled-is (s .off) (took .last .off) (took .kept .off ∙ c .as-mut-slice-3 .ensures .len) in
     let whole = subst (λ r. inside (s .count) 0 r ≡ true) (sym (after .items)) (inside-append (s .count) clause row 0 (s .whole) (sym (c .if-not-are-allotted .ensures tt))) in
     let stock = took .ensures .stocked in
-    let fill : tally .used ≤ length (took .last .pool) = stock .1 in
-    (omega arith, (omega arith, (s .small, (s .few, (whole, (s .wide,
-      (lying-here (c .as-slice .result .now) (vec-items (c .push-clause .last .row)) (took .last .pool) _ (took .last .starts) _ (tally .count) (tally .used) (sym same) pools starts stock,
-      (lasting-here (c .as-slice .result .now) (vec-items (c .push-clause .last .row)) (took .last .pool) _ (took .last .starts) _ (tally .count) (tally .used) (sym same) pools starts stock,
-      (omega (arith, len), (known-off-here (c .as-slice .result .now) (vec-items (c .push-clause .last .row)) (took .last .off) _ (sym same) offs (took .ensures .offs),
-      ((λ e. ⊎-elim
-        (λ old. empty-added row (vec-items (c .push-clause .last .row)) clause (s .count) (s .whole) (after .items) (s .none old))
-        (λ new. subst Empty same (took .ensures .none new))
-        (or-cases (s .empty) (took .result) e)), tt)))))))))))
+    let fill : tally .used ≤ length (took .last .pool) = stock .1 in (
+      omega arith,
+      (
+        omega arith,
+        (
+          s .small,
+          (
+            s .few,
+            (
+              whole,
+              (
+                s .wide,
+                (
+                  lying-here (c .as-slice .result .now) (vec-items (c .push-clause .last .row)) (took .last .pool) _ (took .last .starts) _ (tally .count) (tally .used) (sym same) pools starts stock,
+                  (
+                    lasting-here (c .as-slice .result .now) (vec-items (c .push-clause .last .row)) (took .last .pool) _ (took .last .starts) _ (tally .count) (tally .used) (sym same) pools starts stock,
+                    (
+                      omega (arith, len),
+                      (
+                        known-off-here (c .as-slice .result .now) (vec-items (c .push-clause .last .row)) (took .last .off) _ (sym same) offs (took .ensures .offs),
+                        (
+                          (λ e. ⊎-elim
+                              (λ old. empty-added row (vec-items (c .push-clause .last .row)) clause (s .count) (s .whole) (after .items) (s .none old))
+                              (λ new. subst Empty same (took .ensures .none new))
+                              (or-cases (s .empty) (took .result) e)),
+                          tt,
+                        ),
+                      ),
+                    ),
+                  ),
+                ),
+              ),
+            ),
+          ),
+        ),
+      ),
+    )
 
 pub returns : need.returns
 returns c =

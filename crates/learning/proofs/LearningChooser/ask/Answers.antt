@@ -71,11 +71,31 @@ ghost-self c =
     let starts = refilled-is (s .starts) (r .last .starts) (r .kept .starts ∙ c .as-mut-slice-2 .ensures .len) in
     let offs = refilled-is (s .off) (r .last .off) (r .kept .off ∙ c .as-mut-slice-5 .ensures .len) in
     let stock = r .ensures .stocked in
-    let fill : tally .used ≤ length (r .last .pool) = stock .1 in
-    (s .fits, (s .reserved, (s .small, (s .few, (s .whole, (s .wide,
-      (lying-here (c .as-slice .result .now) (vec-items (s .row)) (r .last .pool) _ (r .last .starts) _ (tally .count) (tally .used) (sym same) pools starts stock,
-      (lasting-here (c .as-slice .result .now) (vec-items (s .row)) (r .last .pool) _ (r .last .starts) _ (tally .count) (tally .used) (sym same) pools starts stock,
-      (omega (arith, len), (known-off-here (c .as-slice .result .now) (vec-items (s .row)) (r .last .off) _ (sym same) offs (r .ensures .offs), (s .none, tt)))))))))))
+    let fill : tally .used ≤ length (r .last .pool) = stock .1 in (
+      s .fits,
+      (
+        s .reserved,
+        (
+          s .small,
+          (
+            s .few,
+            (
+              s .whole,
+              (
+                s .wide,
+                (
+                  lying-here (c .as-slice .result .now) (vec-items (s .row)) (r .last .pool) _ (r .last .starts) _ (tally .count) (tally .used) (sym same) pools starts stock,
+                  (
+                    lasting-here (c .as-slice .result .now) (vec-items (s .row)) (r .last .pool) _ (r .last .starts) _ (tally .count) (tally .used) (sym same) pools starts stock,
+                    (omega (arith, len), (known-off-here (c .as-slice .result .now) (vec-items (s .row)) (r .last .off) _ (sym same) offs (r .ensures .offs), (s .none, tt))),
+                  ),
+                ),
+              ),
+            ),
+          ),
+        ),
+      ),
+    )
 
 pub ghost-self-in-No : need.ghost-self-in-No
 ghost-self-in-No c =
@@ -88,11 +108,31 @@ ghost-self-in-No c =
     let starts = refilled-is (s .starts) (r .last .starts) (r .kept .starts ∙ c .as-mut-slice-2 .ensures .len) in
     let offs = refilled-is (s .off) (r .last .off) (r .kept .off ∙ c .as-mut-slice-5 .ensures .len) in
     let stock = r .ensures .stocked in
-    let fill : tally .used ≤ length (r .last .pool) = stock .1 in
-    (s .fits, (s .reserved, (s .small, (s .few, (s .whole, (s .wide,
-      (lying-here (c .as-slice .result .now) (vec-items (s .row)) (r .last .pool) _ (r .last .starts) _ (tally .count) (tally .used) (sym same) pools starts stock,
-      (lasting-here (c .as-slice .result .now) (vec-items (s .row)) (r .last .pool) _ (r .last .starts) _ (tally .count) (tally .used) (sym same) pools starts stock,
-      (omega (arith, len), (known-off-here (c .as-slice .result .now) (vec-items (s .row)) (r .last .off) _ (sym same) offs (r .ensures .offs), (s .none, tt)))))))))))
+    let fill : tally .used ≤ length (r .last .pool) = stock .1 in (
+      s .fits,
+      (
+        s .reserved,
+        (
+          s .small,
+          (
+            s .few,
+            (
+              s .whole,
+              (
+                s .wide,
+                (
+                  lying-here (c .as-slice .result .now) (vec-items (s .row)) (r .last .pool) _ (r .last .starts) _ (tally .count) (tally .used) (sym same) pools starts stock,
+                  (
+                    lasting-here (c .as-slice .result .now) (vec-items (s .row)) (r .last .pool) _ (r .last .starts) _ (tally .count) (tally .used) (sym same) pools starts stock,
+                    (omega (arith, len), (known-off-here (c .as-slice .result .now) (vec-items (s .row)) (r .last .off) _ (sym same) offs (r .ensures .offs), (s .none, tt))),
+                  ),
+                ),
+              ),
+            ),
+          ),
+        ),
+      ),
+    )
 
 pub ghost-self-in-Never : need.ghost-self-in-Never
 ghost-self-in-Never c =
@@ -105,8 +145,28 @@ ghost-self-in-Never c =
     let starts = refilled-is (s .starts) (r .last .starts) (r .kept .starts ∙ c .as-mut-slice-2 .ensures .len) in
     let offs = refilled-is (s .off) (r .last .off) (r .kept .off ∙ c .as-mut-slice-5 .ensures .len) in
     let stock = r .ensures .stocked in
-    let fill : tally .used ≤ length (r .last .pool) = stock .1 in
-    (s .fits, (s .reserved, (s .small, (s .few, (s .whole, (s .wide,
-      (lying-here (c .as-slice .result .now) (vec-items (s .row)) (r .last .pool) _ (r .last .starts) _ (tally .count) (tally .used) (sym same) pools starts stock,
-      (lasting-here (c .as-slice .result .now) (vec-items (s .row)) (r .last .pool) _ (r .last .starts) _ (tally .count) (tally .used) (sym same) pools starts stock,
-      (omega (arith, len), (known-off-here (c .as-slice .result .now) (vec-items (s .row)) (r .last .off) _ (sym same) offs (r .ensures .offs), ((λ e. subst Empty same (c .in-Never .ensures tt .ended)), tt)))))))))))
+    let fill : tally .used ≤ length (r .last .pool) = stock .1 in (
+      s .fits,
+      (
+        s .reserved,
+        (
+          s .small,
+          (
+            s .few,
+            (
+              s .whole,
+              (
+                s .wide,
+                (
+                  lying-here (c .as-slice .result .now) (vec-items (s .row)) (r .last .pool) _ (r .last .starts) _ (tally .count) (tally .used) (sym same) pools starts stock,
+                  (
+                    lasting-here (c .as-slice .result .now) (vec-items (s .row)) (r .last .pool) _ (r .last .starts) _ (tally .count) (tally .used) (sym same) pools starts stock,
+                    (omega (arith, len), (known-off-here (c .as-slice .result .now) (vec-items (s .row)) (r .last .off) _ (sym same) offs (r .ensures .offs), ((λ e. subst Empty same (c .in-Never .ensures tt .ended)), tt))),
+                  ),
+                ),
+              ),
+            ),
+          ),
+        ),
+      ),
+    )
