@@ -196,5 +196,5 @@ pub fn reward(o: &mut Order, t: &Trail, seen: &mut [u8], heat: &mut [u32], now: 
             }
         }
     }
-    o.step = o.step.wrapping_add(o.step / 12);
+    o.step = o.step.wrapping_add(o.step / 20);
 }

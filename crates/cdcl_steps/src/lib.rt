@@ -229,7 +229,7 @@ pub fn restart(
     tally.count = left.count;
     tally.used = left.used;
     tally.learned = left.learned;
-    tally.limit = left.learned.saturating_add(1000);
+    tally.limit = left.learned.saturating_add(300);
     watch_all(pool, starts, w, t, left.count);
     plan.queue = 0;
 }

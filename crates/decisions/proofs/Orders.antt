@@ -12,11 +12,10 @@ use Rattle.std.proofs.shelf.Tests.{both-ways, cases-eq, cases-lt, and-parts}
 use Rattle.chooser.specs.Ways.{lit, every}
 use Rattle.rows.proofs.Lits.{false-from, every-at}
 use Rattle.implied.specs.Implied.{allowed}
-use Rattle.implied.proofs.Literals.{lit-off, turned-back}
 use Rattle.trail.specs.Trails.{Along, Refuted, Sound, Grew}
 use Rattle.trail.specs.Steps.{Placed}
 use Rattle.trail.specs.declared.kept.Trail.{Trail}
-use Rattle.trail.proofs.Sounds.{refuted-by}
+use Rattle.trail.proofs.Sounds.{refuted-off}
 use Rattle.decisions.specs.Plans.{Among, Ordered, Barred}
 
 pub ordered-none : (given lits marks : List ℕ) (d : ℕ) → ((j : ℕ) → j < d → getD marks j 0 ≡ 2) → Ordered given lits marks d 0 0
@@ -102,9 +101,8 @@ module _ (X : (ℕ → Bool) → Bool) (val lits marks given : List ℕ) (d next
 
   pub no-way : Refuted val (getD given next 0) → ⊥
   no-way f =
-      let w = refuted-by X val lits marks d s (getD given next 0) f in
       both-ways (lit p (getD given next 0))
-      (lit-off p (getD given next 0) (getD lits (w .0) 0) (turned-back (getD given next 0) (getD lits (w .0) 0) (w .2)) (along-to d (omega arith) (w .0) (w .1)))
+      (refuted-off X val lits marks d s p (getD given next 0) (along-to d (omega arith)) f)
       (every-at (lit p) given next g lt)
 
 pub barred : (row val lits marks given : List ℕ) (d next firm : ℕ) → Sound (allowed row) val lits marks d → Ordered given lits marks d next firm → next < length given → Refuted val (getD given next 0) → Barred row given

@@ -9,10 +9,10 @@ ghost use Rattle.chooser.specs.Ways.{lit};
 ghost use Rattle.implied.specs.Implied.{allowed, Pool, Off, Held, Below, Turned};
 
 // Reads that give 0 past the end.
-pub fn at8(xs: &[u8], i: usize) -> u8
-    ensures { λ r. ⌜ r ≡ getD (now (xs .entry)) i 0 ⌝ }
+pub fn at8(bytes: &[u8], i: usize) -> u8
+    ensures { λ r. ⌜ r ≡ getD (now (bytes .entry)) i 0 ⌝ }
 {
-    if i < xs.len() { xs[i] } else { 0 }
+    if i < bytes.len() { bytes[i] } else { 0 }
 }
 
 pub fn at16(xs: &[u16], i: usize) -> u16
@@ -21,10 +21,10 @@ pub fn at16(xs: &[u16], i: usize) -> u16
     if i < xs.len() { xs[i] } else { 0 }
 }
 
-pub fn at32(xs: &[u32], i: usize) -> u32
-    ensures { λ r. ⌜ r ≡ getD (now (xs .entry)) i 0 ⌝ }
+pub fn at32(words: &[u32], i: usize) -> u32
+    ensures { λ r. ⌜ r ≡ getD (now (words .entry)) i 0 ⌝ }
 {
-    if i < xs.len() { xs[i] } else { 0 }
+    if i < words.len() { words[i] } else { 0 }
 }
 
 // Returns the other literal of the variable.

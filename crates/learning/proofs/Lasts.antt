@@ -12,10 +12,11 @@ use Rattle.chooser.specs.Ways.{lit, some}
 use Rattle.rows.specs.Rows.{inside}
 use Rattle.rows.proofs.Lits.{some-at, false-from}
 use Rattle.implied.specs.Implied.{allowed, Off}
+use Rattle.implied.proofs.Literals.{held-some}
 use Rattle.implied.proofs.Pools.{pool-fewer, off-fewer}
 use Rattle.cdcl_steps.specs.Search.{Stocked, Empty}
 use Rattle.learning.specs.Lasting.{Lying, Lasting, Known-off}
-use Rattle.learning.proofs.Clauses.{held-some, allowed-before, clause-met}
+use Rattle.learning.proofs.Clauses.{allowed-before, clause-met}
 
 -- the literals of a clause that lies within the pool
 module _ (pool : List ℕ) (s len : ℕ) (within : s + 1 + len ≤ length pool) where

@@ -12,10 +12,10 @@ use propagate::Watches;
 use trail::Trail;
 
 // The learning chooser. Its memory is reserved once, when it is made, and no call takes more.
-// With E entries the row takes 2 E bytes, and the pool with its spare copy 4 (E + 262,144) bytes. There is room for
-// C = E / 3 + 16,384 clauses in the pool, each of which takes 30 bytes for its start, its two watches and its worth. To this
-// come about 220,000 bytes for the 4,096 variables that it can have, whether they are allotted or not. In all that is less
-// than 16 E + 1,800,000 bytes.
+// With E entries the row takes 2 E bytes, and the pool with its spare copy 4 (E + 262,144). The pool has room for
+// E / 3 + 16,384 clauses, each of which takes 28 bytes for where it starts, its two watches and its worth. To this come
+// 180,228 bytes for the 4,096 variables that it can have, whether they are allotted or not: 44 for each, and a few for all.
+// In all that is less than 16 E + 1,700,000 bytes.
 #[derive(Drop)]
 pub struct Learning {
     // The clauses that were added, each as its length and then its literals: an entry for each number.

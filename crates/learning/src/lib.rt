@@ -60,7 +60,7 @@ impl Learning {
                 count: 0,
                 used: 0,
                 learned: 0,
-                limit: 2000,
+                limit: 500,
                 reserved: entries,
                 clashes: 0,
             },

@@ -15,9 +15,9 @@ use Rattle.rows.specs.Rows.{holds, inside}
 use Rattle.rows.proofs.Clauses.{Whole, holds-clause, inside-clause}
 use Rattle.rows.proofs.Lits.{bits-from, allotted-at, every-from}
 use Rattle.implied.specs.Implied.{allowed, Known}
-use Rattle.implied.proofs.Literals.{lit-off, turned-back}
+use Rattle.implied.proofs.Literals.{held-some}
 use Rattle.trail.specs.Trails.{Along, Dead, Refuted, Sound}
-use Rattle.trail.proofs.Sounds.{refuted-by}
+use Rattle.trail.proofs.Sounds.{refuted-off}
 use Rattle.outcome.specs.Outcome.{Copied, Failing}
 
 module _ (val out : List ℕ) (k : ℕ) (c : Copied val out k) where
@@ -54,19 +54,14 @@ refuted-from val out l c lt shut off =
     (cases-eq (l % 2) 0)
 
 module _ (X : (ℕ → Bool) → Bool) (val lits marks : List ℕ) (d : ℕ) (s : Sound X val lits marks d) where
-  refuted-off : (p : ℕ → Bool) (l : ℕ) → Along p lits d → Refuted val l → lit p l ≡ false
-  refuted-off p l along f =
-      let w = refuted-by X val lits marks d s l f in
-      lit-off p l (getD lits (w .0) 0) (turned-back l (getD lits (w .0) 0) (w .2)) (along (w .0) (w .1))
-
   pub all-refuted : (row : List ℕ) (used c : ℕ) → Known X row used c → ((k : ℕ) → k < getD row c 0 → Refuted val (getD row (c + 1 + k) 0)) → Dead X lits d
   all-refuted row used c known f p x along =
       let w = known .says p x in
-      both-ways (lit p (getD row (c + 1 + w .0) 0)) (refuted-off p (getD row (c + 1 + w .0) 0) along (f (w .0) (w .1))) (w .2)
+      both-ways (lit p (getD row (c + 1 + w .0) 0)) (refuted-off X val lits marks d s p (getD row (c + 1 + w .0) 0) along (f (w .0) (w .1))) (w .2)
 
   -- an assumption on the trail that is false there
   pub both-dead : (g j : ℕ) → j < d → getD lits j 0 ≡ g → Refuted val g → Dead X lits d
-  both-dead g j lt is f p x along = both-ways (lit p g) (refuted-off p g along f) (ap (lit p) (sym is) ∙ along j lt)
+  both-dead g j lt is f p x along = both-ways (lit p g) (refuted-off X val lits marks d s p g along f) (ap (lit p) (sym is) ∙ along j lt)
 
 -- the clause at s of a row, and the row behind it
 module _ (row : List ℕ) (v s : ℕ) (lt : s < length row) (whole : inside v 0 (drop s row) ≡ true) where
@@ -103,15 +98,10 @@ module _ (row : List ℕ) (v s : ℕ) (lt : s < length row) (whole : inside v 0 
         fits = clause-fits;
         says = λ p x.
             let met = and-parts (some (lit p) (take (getD row s 0) (drop (s + 1) row))) (holds (lit p) true 0 (drop (s + (getD row s 0 + 1)) row)) (sym (clause-holds (lit p)) ∙ reach (lit p) x) .0 in
-            let w = some-index (lit p) (take (getD row s 0) (drop (s + 1) row)) met in
+            let w = held-some p (take (getD row s 0) (drop (s + 1) row)) met in
             let less : w .0 < getD row s 0 = let h = w .1 in omega (arith, size) in
             (w .0, less, ap (lit p) (sym (at (w .0) less)) ∙ w .2);
       }
-    where
-      some-index : (f : ℕ → Bool) (c : List ℕ) → some f c ≡ true → (k : ℕ) × (k < length c) × (f (getD c k 0) ≡ true)
-      some-index f [] e = absurd (both-ways false refl e)
-      some-index f (x ∷ xs) e =
-          ⊎-elim (λ on. (zero, omega arith, on)) (λ later. let w = some-index f xs later in let h : w .0 < length xs = w .1 in (suc (w .0), omega arith, w .2)) (or-cases (f x) (some f xs) e)
 
   pub clause-failing : (out : List ℕ) → length out ≡ v → ((f : ℕ → Bool) → holds f true 0 row ≡ true → holds f true 0 (drop s row) ≡ true)
       → some (lit (written out)) (take (getD row s 0) (drop (s + 1) row)) ≡ false → Failing row out s

@@ -9,19 +9,13 @@ use lib.ListN.{length, getD, set}
 use Rattle.std.proofs.shelf.Tests.{both-ways}
 use Rattle.chooser.specs.Ways.{lit}
 use Rattle.implied.specs.Implied.{Known}
-use Rattle.implied.proofs.Literals.{lit-off, turned-back}
 use Rattle.trail.specs.Trails.{Along, Follows, Dead, Refuted, Sound, Grew}
 use Rattle.trail.specs.declared.kept.Trail.{Trail}
 use Rattle.trail.specs.Steps.{Steady, Pushed}
-use Rattle.trail.proofs.Sounds.{refuted-by, grew-none, grew-push, grew-trans}
+use Rattle.trail.proofs.Sounds.{refuted-off, grew-none, grew-push, grew-trans}
 use Rattle.propagate.specs.Visits.{Onward}
 
 module _ (X : (ℕ → Bool) → Bool) (val lits marks : List ℕ) (d : ℕ) (s : Sound X val lits marks d) where
-  pub refuted-off : (p : ℕ → Bool) (l : ℕ) → Along p lits d → Refuted val l → lit p l ≡ false
-  refuted-off p l along f =
-      let w = refuted-by X val lits marks d s l f in
-      lit-off p l (getD lits (w .0) 0) (turned-back l (getD lits (w .0) 0) (w .2)) (along (w .0) (w .1))
-
   module _ (pool : List ℕ) (used c other : ℕ) (known : Known X pool used c)
       (false-but : (i : ℕ) → c + 1 ≤ i → i < c + 1 + getD pool c 0 → (getD pool i 0 ≡ other) ⊎ Refuted val (getD pool i 0)) where
     pub unit-follows : Follows X lits d other
@@ -31,11 +25,11 @@ module _ (X : (ℕ → Bool) → Bool) (val lits marks : List ℕ) (d : ℕ) (s 
         let at = c + 1 + w .0 in
         ⊎-elim
         (λ is. subst (λ l. lit p l ≡ true) is (w .2))
-        (λ f. absurd (both-ways (lit p (getD pool at 0)) (refuted-off p (getD pool at 0) along f) (w .2)))
+        (λ f. absurd (both-ways (lit p (getD pool at 0)) (refuted-off X val lits marks d s p (getD pool at 0) along f) (w .2)))
         (false-but at (omega arith) (omega arith))
 
     pub clash-dead : Refuted val other → Dead X lits d
-    clash-dead f p x along = both-ways (lit p other) (refuted-off p other along f) (unit-follows p x along)
+    clash-dead f p x along = both-ways (lit p other) (refuted-off X val lits marks d s p other along f) (unit-follows p x along)
 
 pub onward-trans : (X : (ℕ → Bool) → Bool) (t u v : Trail) → Onward X t u → Onward X u v → Onward X t v
 onward-trans X t u v g h =

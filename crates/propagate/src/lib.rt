@@ -38,9 +38,9 @@ pub fn put16(xs: &mut [u16], i: usize, x: u16) {
     }
 }
 
-pub fn put32(xs: &mut [u32], i: usize, x: u32) {
-    if i < xs.len() {
-        xs[i] = x;
+pub fn put32(words: &mut [u32], i: usize, x: u32) {
+    if i < words.len() {
+        words[i] = x;
     }
 }
 

@@ -2,7 +2,7 @@
 use mathlib.Core.Path.{_≡_, refl, sym, ap, subst, _∙_}
 use mathlib.Core.Logic.{_⊎_, ⊎-elim}
 use mathlib.Core.List.{List}
-use mathlib.Core.Bool.{Bool, true}
+use mathlib.Core.Bool.{Bool, true, false}
 use Prim.Native.Nat.{ℕ, _+_, _-_, _*_, _/_, _%_, _≤_, _<_}
 use native.Mathlib.Omega.{arith}
 use lib.Dec.{ltb}
@@ -12,6 +12,7 @@ use Rattle.std.proofs.shelf.Tests.{cases-eq, cases-lt, lt-ltb}
 use Rattle.chooser.specs.Ways.{lit}
 use Rattle.weight.proofs.Marks.{push-good, push-rises, cut-good}
 use Rattle.implied.specs.Implied.{Turned, Below}
+use Rattle.implied.proofs.Literals.{lit-off, turned-back}
 use Rattle.trail.specs.Trails.{Along, Follows, Sound, Grew, Refuted, opens}
 use Rattle.trail.proofs.Opens.{opens-set, opens-less}
 
@@ -128,6 +129,11 @@ module _ (X : (ℕ → Bool) → Bool) (val lits marks : List ℕ) (d : ℕ) (s 
       let w = s .shown (l / 2) (omega arith) (omega arith) in
       let at : getD lits (w .0) 0 ≡ 2 * (l / 2) + (1 - getD val (l / 2) 0) = w .2 in
       (w .0, w .1, (omega arith, λ e. let z : ⊥ = omega arith in z))
+
+  pub refuted-off : (p : ℕ → Bool) (l : ℕ) → Along p lits d → Refuted val l → lit p l ≡ false
+  refuted-off p l along f =
+      let w = refuted-by l f in
+      lit-off p l (getD lits (w .0) 0) (turned-back l (getD lits (w .0) 0) (w .2)) (along (w .0) (w .1))
 
   -- and a literal that is true stands on it
   pub held-by : (l : ℕ) → l / 2 < length val → getD val (l / 2) 0 + l % 2 ≡ 1 → (j : ℕ) × (j < d) × (getD lits j 0 ≡ l)

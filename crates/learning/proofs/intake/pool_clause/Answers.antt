@@ -1,5 +1,5 @@
 use native.Mathlib.Omega.{arith}
-use Rattle.learning.proofs.Clauses.{held-some}
+use Rattle.implied.proofs.Literals.{held-some}
 use Rattle.learning.proofs.intake.pool_clause.Needs as need
 
 pub append-requires : need.append-requires

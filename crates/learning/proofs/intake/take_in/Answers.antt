@@ -8,7 +8,7 @@ use Rattle.std.proofs.shelf.Tests.{both-ways}
 use Rattle.chooser.specs.Ways.{lit, some}
 use Rattle.rows.proofs.Lits.{false-from}
 use Rattle.implied.specs.Implied.{allowed}
-use Rattle.learning.proofs.Clauses.{held-some}
+use Rattle.implied.proofs.Literals.{held-some}
 use Rattle.learning.proofs.intake.take_in.Needs as need
 
 -- a clause of one literal shows it
