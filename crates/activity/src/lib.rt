@@ -1,5 +1,7 @@
 // Which variable to decide next: the open one that took part in the most clashes lately, at the value that it last had. Of
 // the order nothing is claimed, but that what it picks is open.
+#![tactic(auto)]
+
 ghost use Rattle.std.specs.Prelude.{◌≡◌, ℕ, ◌+◌, ◌/◌, ◌<◌, ◌≤◌, Bool, true, false, length, ◌≢◌};
 ghost use Rattle.implied.specs.Implied.{allowed};
 ghost use Rattle.trail.specs.Steps.{Steady};

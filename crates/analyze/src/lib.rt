@@ -1,5 +1,7 @@
 // What a clash teaches: a clause that every allowed way meets, drawn from the clauses that led to it, and the place of the
 // trail to jump back to. Each step is checked as it is made; where a check fails, the clause of the decisions is drawn.
+#![tactic(auto)]
+
 ghost use Rattle.std.specs.Prelude.{◌≡◌, ℕ, ◌+◌, ◌/◌, ◌<◌, ◌≤◌, Bool, true, false, length, slice_index};
 ghost use Rattle.implied.specs.Implied.{allowed, Pool, Off, Held, Turned};
 ghost use Rattle.trail.specs.Trails.{Dead};

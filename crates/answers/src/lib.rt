@@ -1,3 +1,5 @@
 // What a search answers.
+#![tactic(auto)]
+
 pub mod answer;
 pub mod words;

@@ -1,5 +1,7 @@
 // The search for a way that meets a row of clauses and a list of assumptions: backtracking with unit propagation.
 // It is a loop over a trail of literals, and needs no stack that grows with the variables.
+#![tactic(auto)]
+
 ghost use Rattle.std.specs.Prelude.{◌≡◌, ◌+◌, ◌-◌, ◌/◌, ◌<◌, ◌≤◌, true, length, slice_index};
 ghost use Rattle.chooser.specs.Ways.{allotted};
 ghost use Rattle.rows.specs.Rows.{inside};

@@ -1,4 +1,6 @@
 // The search with learning: propagate, decide, and at a clash learn a clause and jump back, until the answer is shown.
+#![tactic(auto)]
+
 ghost use Rattle.std.specs.Prelude.{◌≡◌, Bool, true, false, ℕ, ◌+◌, ◌≤◌, ◌<◌, length};
 ghost use Rattle.chooser.specs.Ways.{allotted};
 ghost use Rattle.rows.specs.Rows.{inside};

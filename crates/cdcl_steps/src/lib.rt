@@ -1,5 +1,7 @@
 // The steps of a search with learning: propagate and choose, learn from a clash and jump back, begin anew. What is learned
 // follows from the clauses of the row alone, so that it serves the next search too.
+#![tactic(auto)]
+
 ghost use Rattle.std.specs.Prelude.{◌≡◌, Bool, true, false, ℕ, ◌+◌, ◌≤◌, ◌<◌, length, get_or};
 ghost use Rattle.chooser.specs.Ways.{allotted};
 ghost use Rattle.rows.specs.Rows.{inside};

@@ -1,5 +1,7 @@
 // Checks problems of 1, 4 and 16 KiB, as often as its argument says, and prints how many bytes a second that is.
 // With no argument it only says which of them are accepted.
+#![tactic(auto)]
+
 use std::alloc::{AllocError, Global};
 use std::time::Instant;
 use std::{env, io};

@@ -1,5 +1,7 @@
 // A chooser holds variables that are 0 or 1 and clauses over them, and says whether some way to give the variables values is left.
 // Literal 2i says that variable i is 1, literal 2i + 1 that it is 0.
+#![tactic(auto)]
+
 ghost use Rattle.std.specs.Prelude.{◌≡◌, ℕ, ◌+◌};
 ghost use Rattle.chooser.specs.Faults.{fault_number};
 ghost use Rattle.chooser.specs.Meaning.{Meaning, Same, Lawful};

@@ -1,6 +1,8 @@
 // Runs scripts on a chooser and says how long its calls took. A script has a line for each call: `v N` allots N variables,
 // `a L L ..` adds a clause, and `q L L ..` asks under assumptions; a literal is a variable counted from 1, with a minus for 0.
 // Usage: chooser_bench plain|learning FILE ..
+#![tactic(auto)]
+
 use anyhow::anyhow;
 use chooser::{Answer, Chooser};
 use learning::Learning;

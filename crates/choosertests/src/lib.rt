@@ -1,4 +1,6 @@
 // The refusals of a chooser at their edges, and its answers, on each kind of chooser.
+#![tactic(auto)]
+
 #[cfg(test)]
 mod tests {
     use chooser::{Answer, Chooser, Fault};

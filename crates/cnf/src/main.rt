@@ -1,5 +1,7 @@
 // Reads a formula in the DIMACS form from the file that is named, or from the input, and answers as solvers in this field do.
 // Usage: cnf [--plain | --learning] [FILE]
+#![tactic(auto)]
+
 use anyhow::anyhow;
 use chooser::{Answer, Chooser, Fault, MakeFault};
 use decide::decide;

@@ -1,4 +1,6 @@
 // Looks for type numbers outside terms that name no type.
+#![tactic(auto)]
+
 ghost use Rattle.std.specs.Prelude.{◌≡◌, ℕ, ◌+◌, ◌*◌, ◌^◌, ◌<◌, ◌≤◌, map, length, take, slice_index_or};
 ghost use Rattle.syntax.specs.Tables.{listed};
 ghost use Rattle.declarations.specs.Numbers.{in_list, in_cases, in_profile, in_unknowns, first_from, of_types, of_functions, of_tables, Low};

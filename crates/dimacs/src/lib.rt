@@ -1,5 +1,7 @@
 // Reads formulas in the DIMACS form: comment lines that begin with c, a header `p cnf VARIABLES CLAUSES`, and clauses as numbers,
 // each clause ended by 0. A line behind the header that begins with % ends the text.
+#![tactic(auto)]
+
 ghost use Rattle.std.specs.Prelude.{◌≡◌, ◌+◌, ◌-◌, ◌≤◌, length, pos, negsuc, if◌then◌else◌, nat_eq};
 ghost use Rattle.dimacs.specs.Feed.{line_of};
 ghost use Rattle.dimacs.specs.Read.{bad_at, Reads};

@@ -1,2 +1,4 @@
 // Sessions worked through by the rules, for every chooser.
+#![tactic(auto)]
+
 pub mod laws;

@@ -1,4 +1,6 @@
 // Forgetting learned clauses: those that are worth it are carried into a spare pool and copied back.
+#![tactic(auto)]
+
 ghost use Rattle.std.specs.Prelude.{◌≡◌, ℕ, ◌+◌, ◌≤◌, ◌<◌, length};
 ghost use Rattle.implied.specs.Implied.{allowed, Pool, Below};
 

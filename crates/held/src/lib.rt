@@ -1,4 +1,6 @@
 // What judging works with: explanations, which are sets of unknowns, and held terms in lent places.
+#![tactic(auto)]
+
 pub mod explanation;
 pub mod memory;
 pub mod places;

@@ -1,6 +1,8 @@
 // Clauses that every allowed way meets, and literals that every allowed way makes false. A way is allowed when it meets each
 // clause of the row. The pool holds such clauses one after another, each as its length and then its literals; `starts` has
 // where the first `count` of them start, and `used` numbers of the pool are taken.
+#![tactic(auto)]
+
 ghost use Rattle.std.specs.Prelude.{◌≡◌, ℕ, ◌+◌, ◌<◌, ◌≤◌, Bool, true, false, length, slice_index};
 ghost use Rattle.chooser.specs.Ways.{lit};
 ghost use Rattle.implied.specs.Implied.{allowed, Pool, Off, Held, Below, Turned};

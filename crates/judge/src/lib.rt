@@ -1,4 +1,6 @@
 // The judge: heads of held terms and comparings, by the rules of judging and with their steps.
+#![tactic(auto)]
+
 pub mod answers;
 pub mod cycle;
 pub mod decides;

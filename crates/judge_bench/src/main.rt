@@ -1,5 +1,7 @@
 // Judges the first goal of a problem without unknowns, from a file: `judge_bench PROBLEM TIMES`. It prints how many steps that takes
 // and, with TIMES, how many steps a second it judges.
+#![tactic(auto)]
+
 use held::explanation::Explanation;
 use held::places::{Held, Place};
 use judge::answers::{Head, Left};

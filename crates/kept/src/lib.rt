@@ -1,3 +1,5 @@
 // The tables that a problem keeps, filled from bytes that the check accepts.
+#![tactic(auto)]
+
 pub mod fill;
 pub mod tables;

@@ -1,5 +1,7 @@
 // The learning chooser: it keeps what it learns from clashes, and the values that variables last had, from one question to the
 // next.
+#![tactic(auto)]
+
 ghost use Rattle.std.specs.Prelude.{◌≡◌, ℕ, ◌+◌, length};
 ghost use Rattle.chooser.specs.Steps.{Add};
 ghost use Rattle.chooser.specs.Made.{Made};

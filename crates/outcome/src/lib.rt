@@ -1,5 +1,7 @@
 // What the values of a trail come to once nothing is left to decide: they are written out and held against each clause and each
 // assumption. Where one fails, a literal of it is open, or no allowed way is along the trail.
+#![tactic(auto)]
+
 ghost use Rattle.std.specs.Prelude.{◌≡◌, ℕ, ◌+◌, ◌/◌, ◌<◌, ◌≤◌, Bool, true, false, length, slice_index};
 ghost use Rattle.chooser.specs.Ways.{lit, some, allotted, written};
 ghost use Rattle.rows.specs.Rows.{inside};

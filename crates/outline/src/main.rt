@@ -1,4 +1,6 @@
 // Reads lines of a name and bytes in hexadecimal, takes each as a problem, and prints what the problem says when it is asked.
+#![tactic(auto)]
+
 use problem::problem::Problem;
 use problem::take::take;
 use problem::view::View;

@@ -1,4 +1,6 @@
 // The plain chooser: it keeps its clauses as they were added, and answers by backtracking.
+#![tactic(auto)]
+
 ghost use Rattle.std.specs.Prelude.{◌+◌};
 ghost use Rattle.chooser.specs.Steps.{Add};
 ghost use Rattle.chooser.specs.Made.{Made};

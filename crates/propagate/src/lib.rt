@@ -1,5 +1,7 @@
 // Unit propagation by two watched literals. Each clause of two literals or more has two watches, 2c and 2c + 1, each in a list
 // of those that watch its literal. Of the lists nothing is claimed: what is put on the trail is shown by the clause itself.
+#![tactic(auto)]
+
 ghost use Rattle.std.specs.Prelude.{◌≡◌, ℕ, ◌+◌, ◌<◌, ◌≤◌, Bool, true, false, ◌⊎◌, length, slice_index};
 ghost use Rattle.implied.specs.Implied.{allowed, Pool};
 ghost use Rattle.trail.specs.Trails.{Dead, Refuted, Grew};

@@ -1,4 +1,6 @@
 // Reads the records of a problem one after another.
+#![tactic(auto)]
+
 pub mod next;
 mod parts;
 pub mod reader;

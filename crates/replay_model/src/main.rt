@@ -1,4 +1,6 @@
 // Judges the goals of a problem under a model: `replay_model PROBLEM MODEL`, both files. Each goal has 4,096 steps.
+#![tactic(auto)]
+
 use held::places::{Held, Place};
 use problem::take::take;
 use replay::faults::ReplayFault;

@@ -1,4 +1,6 @@
 // The rounds of a search: asking the chooser, judging what it picks, and learning from it.
+#![tactic(auto)]
+
 mod asking;
 pub mod limits;
 mod opening;

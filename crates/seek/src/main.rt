@@ -1,4 +1,6 @@
 // Reads a problem from the file that is named, or from standard input, and says what it declares or why it is refused.
+#![tactic(auto)]
+
 use problem::problem::Problem;
 use problem::take::take;
 use std::io::Read;

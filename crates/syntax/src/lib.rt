@@ -1,4 +1,6 @@
 // The language of problems: abstract syntax, typing, values and encoding in specs/; here the tables and faults
 // that the crates above share.
+#![tactic(auto)]
+
 pub mod faults;
 pub mod tables;

@@ -1,3 +1,5 @@
 // The typed check of a term over bytes: one byte at a time, with what is still to be read on a stack of tasks.
+#![tactic(auto)]
+
 pub mod check;
 pub mod tasks;

@@ -1,5 +1,7 @@
 // The trail of a search with learning: literals in the order in which they were put, each a decision or one that follows from
 // the clauses and the literals before it. The variables' values are kept beside it.
+#![tactic(auto)]
+
 ghost use Rattle.std.specs.Prelude.{◌≡◌, ℕ, ◌+◌, ◌-◌, ◌/◌, ◌<◌, ◌≤◌, Bool, true, false, ◌⊎◌, length};
 ghost use Rattle.implied.specs.Implied.{allowed};
 ghost use Rattle.trail.specs.Trails.{Follows, Valued, Refuted};

@@ -1,4 +1,6 @@
 // The verdict on bytes: are they a problem, and if not, what is the first fault?
+#![tactic(auto)]
+
 pub mod check;
 pub mod examine;
 pub mod terms;

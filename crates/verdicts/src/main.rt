@@ -1,4 +1,6 @@
 // Reads lines of a name and bytes in hexadecimal, and prints the verdict on the bytes of each.
+#![tactic(auto)]
+
 use std::alloc::{AllocError, Global};
 use std::io;
 use std::io::{BufRead, BufReader};

@@ -14,14 +14,14 @@ loop-depth-init c =
     (λ t h. ap (λ xs. get_or xs t 0) nines ∙ get_or-replicate n t 9 0 (omega (arith, long, h)))
 
 pub loop-depth-preserved : goal.loop-depth-preserved
-loop-depth-preserved c = c.round.ensures c.loop-depth.-depth c.loop-depth.invariant
+loop-depth-preserved c = c.round.ensures c.loop-depth._depth c.loop-depth.invariant
 
 pub returns : goal.returns
 returns c =
     let sig = declared_in c.args.sig in
     let least = c.loop-depth.least in
-    let nine : c.loop-depth.-depth ≡ 9 = omega arith in
+    let nine : c.loop-depth._depth ≡ 9 = omega arith in
     let known : Known sig least 9 0 = subst (λ k. Known sig least k 0) nine c.loop-depth.invariant in
     let long : length least ≡ length sig.types = simp length-map (omega arith) in
     let right : Leasts sig least = leasts sig least long known in
-    record { each = right; first = first_without sig least right c.first-unknown.result c.first-unknown.ensures }
+    record { each = right; first = first_without sig least right c.first_unknown.result c.first_unknown.ensures }

@@ -3,4 +3,4 @@ use Rattle.depths.specs.Least.{Known}
 use Rattle.depths.proofs.least.least_depths.Given as goal
 
 abbrev pub invariant-loop-depth : goal.invariant-loop-depth
-invariant-loop-depth l = Known (declared_in l.sig) l.least l.-depth 0
+invariant-loop-depth l = Known (declared_in l.sig) l.least l._depth 0

@@ -8,7 +8,7 @@ use Rattle.depths.proofs.needs.fill_needs.Goals as goal
 pub loop-t-preserved : goal.loop-t-preserved
 loop-t-preserved c =
     let low : c.loop-t.t < length c.loop-t.needs = omega arith in
-    row_more (need_by (declared_in c.args.sig) c.args.least.now) c.loop-t.needs c.loop-t.t c.needs-of.result low c.loop-t.invariant c.needs-of.ensures
+    row_more (need_by (declared_in c.args.sig) c.args.least.now) c.loop-t.needs c.loop-t.t c.needs_of.result low c.loop-t.invariant c.needs_of.ensures
 
 pub returns : goal.returns
 returns c =

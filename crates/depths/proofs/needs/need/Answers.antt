@@ -6,6 +6,6 @@ use Rattle.depths.proofs.needs.need.Goals as goal
 pub returns : goal.returns
 returns c =
     record {
-      by = c.need-at.ensures;
-      is = λ right. c.need-at.ensures ∙ need_right (declared_in c.args.sig) c.args.least.now right c.args.t c.args.c;
+      by = c.need_at.ensures;
+      is = λ right. c.need_at.ensures ∙ need_right (declared_in c.args.sig) c.args.least.now right c.args.t c.args.c;
     }

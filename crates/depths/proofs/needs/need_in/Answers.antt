@@ -16,7 +16,7 @@ returns-then-c-constructors c =
     ap (λ n. take n args.types) c.arity.ensures.0 ∙ take_own args.count args.types in
     let here : greatest (depth_at least) (take c.arity.result args.types) ≡ greatest (depth_at least) (get_or (cases_in d) c.args.c []) =
     ap (greatest (depth_at least)) (part ∙ sym (constructor_at d c.args.c low)) in
-    record { is = ap (λ n. 1 + n) (c.deepest-of.ensures.is ∙ here); low = omega arith }
+    record { is = ap (λ n. 1 + n) (c.deepest_of.ensures.is ∙ here); low = omega arith }
 
 pub returns-else-c-constructors : goal.returns-else-c-constructors
 returns-else-c-constructors c =

@@ -6,7 +6,7 @@ use Rattle.reading.proofs.lookup.constructor.Goals as goal
 
 pub returns-then-t-sig : goal.returns-then-t-sig
 returns-then-t-sig c =
-    c.constructor-in.ensures
+    c.constructor_in.ensures
     ∙ ap (λ cs. get_or cs c.args.c []) (sym (get_or-map cases_in c.args.sig.types.now c.args.t no_datatype [] c.if-t-sig.true))
 
 pub returns-else-t-sig : goal.returns-else-t-sig

@@ -17,7 +17,7 @@ returns-in-err-list c =
 
 pub loop-preserved : goal.loop-preserved
 loop-preserved c =
-    let e = c.in-ok-list.ensures in
+    let e = c.in_ok-list.ensures in
     (e.0 ∙ c.loop.invariant.0, listed_more c.loop.invariant.1 c.loop-test.true e.1)
 
 pub slice-bounds-part-count : goal.slice-bounds-part-count

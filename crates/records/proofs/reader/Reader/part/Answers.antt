@@ -7,11 +7,11 @@ use Rattle.records.proofs.reader.Reader.part.Goals as goal
 pub returns : goal.returns
 returns c =
     let s = c.args.self.now in
-    let one = c.in-ok-high.ensures in
-    let two = c.in-ok-low.ensures in
-    let three = c.in-ok-part.ensures in
-    let h = c.in-ok-high.high in
-    let l = c.in-ok-low.low in
+    let one = c.in_ok-high.ensures in
+    let two = c.in_ok-low.ensures in
+    let three = c.in_ok-part.ensures in
+    let h = c.in_ok-high.high in
+    let l = c.in_ok-low.low in
     let low : l < 256 = search rules in
     let n : 256 * h + l ≡ 256 * c.from.result + c.from-2.result = omega (arith, c.from.ensures, c.from-2.ensures) in
     let a = c.byte-2.new.self in
