@@ -1,6 +1,6 @@
 -- Writes that leave what is known: behind the clauses of a pool, behind the list of their starts, and at a literal that every
 -- allowed way makes false.
-use Rattle.std.proofs.Common.{◌≡◌, ℕ, ◌+◌, ◌<◌, ◌≤◌, Bool, true, false, List, length, get_or, set, sym, ap, ◌∙◌, subst, ⊎_elim, arith, get_or-set_other}
+use Rattle.std.proofs.Common.{◌≡◌, ℕ, ◌+◌, ◌<◌, ◌≤◌, Bool, true, false, List, get_or, set, sym, ap, ◌∙◌, subst, ⊎_elim, arith, get_or-set_other}
 use Rattle.std.proofs.lemmas.Bool.{cases_eq}
 use Rattle.chooser.specs.Ways.{lit}
 use Rattle.implied.specs.Implied.{Known, Pool, Off, Below}

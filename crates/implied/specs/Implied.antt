@@ -1,6 +1,6 @@
 -- What is known of the allowed ways: clauses that each of them meets, literals that each of them makes false. X says which
 -- ways are allowed.
-use Rattle.std.specs.Prelude.{◌≡◌, ℕ, ◌+◌, ◌/◌, ◌<◌, ◌≤◌, Bool, true, false, List, length, ◌≢◌, slice_index}
+use Rattle.std.specs.Prelude.{◌≡◌, ℕ, ◌+◌, ◌/◌, ◌<◌, ◌≤◌, Bool, true, false, List, ◌≢◌, slice_index}
 use Rattle.chooser.specs.Ways.{lit}
 use Rattle.rows.specs.Rows.{holds}
 

@@ -1,11 +1,11 @@
 -- A sound trail stays sound when a literal is put on it or taken back, and what its values show.
-use Rattle.std.proofs.Common.{◌≡◌, ℕ, ◌+◌, ◌-◌, ◌*◌, ◌/◌, ◌%◌, ◌<◌, ◌≤◌, Bool, true, false, ltb, ◌⊎◌, List, length, get_or, take, set, sym, refl, ap, ◌∙◌, subst, ⊎_elim, arith, length-set, get_or-set_other, get_or-set_same}
+use Rattle.std.proofs.Common.{◌≡◌, ℕ, ◌+◌, ◌-◌, ◌*◌, ◌/◌, ◌%◌, ◌<◌, ◌≤◌, Bool, true, false, ltb, ◌⊎◌, List, length, get_or, set, sym, refl, ap, ◌∙◌, subst, ⊎_elim, arith, length-set, get_or-set_other, get_or-set_same}
 use Rattle.std.proofs.lemmas.Bool.{cases_eq, cases_lt, lt-ltb}
 use Rattle.chooser.specs.Ways.{lit}
 use Rattle.weight.proofs.Marks.{push_good, push_rises, cut_good}
 use Rattle.implied.specs.Implied.{Turned, Below}
 use Rattle.implied.proofs.Literals.{lit_off, turned_back}
-use Rattle.trail.specs.Trails.{Along, Follows, Sound, Grew, Refuted, opens}
+use Rattle.trail.specs.Trails.{Along, Follows, Sound, Grew, Refuted}
 use Rattle.trail.proofs.Opens.{opens_set, opens_less}
 
 -- literals that agree below d are true along the same ways

@@ -1,5 +1,5 @@
 -- What each step does to a trail.
-use Rattle.std.specs.Prelude.{◌≡◌, ℕ, ◌+◌, ◌-◌, ◌/◌, ◌<◌, ◌≤◌, Bool, true, false, length, slice_index, slice_set}
+use Rattle.std.specs.Prelude.{◌≡◌, ℕ, ◌+◌, ◌-◌, ◌/◌, ◌<◌, Bool, true, false, slice_index, slice_set}
 use Rattle.trail.specs.Trails.{Sound}
 use Rattle.trail.specs.declared.kept.Trail.{Trail}
 

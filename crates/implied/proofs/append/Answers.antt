@@ -1,6 +1,6 @@
-use Rattle.std.proofs.Common.{◌≡◌, ℕ, ◌+◌, ◌<◌, ◌≤◌, Bool, true, length, get_or, set, sym, refl, ap, ◌∙◌, subst, arith, length-set, get_or-set_other, get_or-set_same}
+use Rattle.std.proofs.Common.{◌≡◌, ◌+◌, ◌<◌, length, get_or, set, sym, refl, ap, ◌∙◌, subst, arith, length-set, get_or-set_other, get_or-set_same}
 use Rattle.chooser.specs.Ways.{lit}
-use Rattle.implied.specs.Implied.{allowed, Known, Below, Pool}
+use Rattle.implied.specs.Implied.{allowed, Known, Below}
 use Rattle.implied.proofs.Pools.{pool_kept, below_more}
 use Rattle.implied.proofs.append.Goals as goal
 

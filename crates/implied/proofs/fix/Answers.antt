@@ -1,4 +1,4 @@
-use Rattle.std.proofs.Common.{◌≡◌, ℕ, ◌+◌, ◌<◌, Bool, true, get_or, sym, ◌∙◌, subst, arith}
+use Rattle.std.proofs.Common.{◌≡◌, ℕ, ◌+◌, Bool, true, get_or, sym, ◌∙◌, subst, arith}
 use Rattle.std.proofs.lemmas.Bool.{both_ways}
 use Rattle.chooser.specs.Ways.{lit}
 use Rattle.implied.specs.Implied.{allowed}
@@ -17,8 +17,8 @@ loop-k-preserved c =
       | else-m-l-via-else-m-l w ↦ subst (λ k. lit p k ≡ true) w.if-m-l.false on
     ])
 
-pub mark-true-requires : goal.mark-true-requires
-mark-true-requires c =
+pub mark_true-requires : goal.mark_true-requires
+mark_true-requires c =
     let known = c.requires.pools c.args.c (omega arith) in
     record {
       offs = c.requires.offs;

@@ -1,4 +1,4 @@
-use Rattle.std.proofs.Common.{◌≡◌, ℕ, ◌+◌, ◌<◌, ◌≤◌, true, List, length, get_or, take, set, refl, ap, ◌∙◌, arith, length-set, get_or-set_other, get_or-set_same}
+use Rattle.std.proofs.Common.{◌≡◌, ℕ, ◌<◌, true, List, length, get_or, take, set, ap, ◌∙◌, arith, length-set, get_or-set_other, get_or-set_same}
 use Rattle.weight.specs.Weight.{digits}
 use Rattle.implied.proofs.Pools.{below_more}
 use Rattle.trail.proofs.Opens.{opens_most}

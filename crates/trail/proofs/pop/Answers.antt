@@ -1,4 +1,4 @@
-use Rattle.std.proofs.Common.{refl, arith}
+use Rattle.std.proofs.Common.{refl}
 use Rattle.implied.specs.Implied.{allowed}
 use Rattle.trail.proofs.Sounds.{sound_pop}
 use Rattle.trail.proofs.pop.Goals as goal

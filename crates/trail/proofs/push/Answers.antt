@@ -1,4 +1,4 @@
-use Rattle.std.proofs.Common.{◌≡◌, ◌/◌, ◌<◌, ◌≤◌, length, get_or, refl, arith}
+use Rattle.std.proofs.Common.{◌/◌, ◌≤◌, length, refl, arith}
 use Rattle.std.proofs.lemmas.List.{get_or_past}
 use Rattle.implied.specs.Implied.{allowed}
 use Rattle.trail.proofs.Sounds.{push_room, sound_push}
