@@ -1,13 +1,13 @@
 -- How words of bits represent sets: the bits of an `or`, of a power of two, and of eight words.
-use Rattle.std.proofs.Common.{◌≡◌, ℕ, zero, suc, ◌+◌, ◌-◌, ◌*◌, ◌/◌, ◌%◌, ◌^◌, ◌<◌, ◌≤◌, Bool, true, false, ◌||◌, eqb, ◌≢◌, List, [], ◌∷◌, ◌++◌, length, get_or, set, sym, refl, ap, ◌∙◌, subst, inl, inr, arith, get_or-set_other, get_or-set_same, pow_pos, pow-add}
-use mathlib.Core.Bool.{or-false, or_assoc, or_comm}
+use Rattle.std.proofs.Common.{◌≡◌, ℕ, zero, suc, ◌+◌, ◌-◌, ◌/◌, ◌%◌, ◌^◌, ◌<◌, ◌≤◌, false, ◌||◌, eqb, ◌≢◌, List, [], ◌∷◌, length, get_or, set, sym, refl, ap, ◌∙◌, inl, inr, arith, get_or-set_other, get_or-set_same, pow_pos, pow-add}
+use mathlib.Core.Bool.{or-false}
 use native.Mathlib.Nat.{div-eq_of_lt}
 use lib.Bits.{bit_or, or_shr, or_mod, shifted_even}
 use lib.Pow.{pow-lt, shl-shr}
 use Rattle.std.proofs.lemmas.Bool.{eq-eqb, ne_eqb, cases_eq, cases_lt, cases_order}
-use Rattle.std.proofs.lemmas.Nat.{mod_below, one_shl}
+use Rattle.std.proofs.lemmas.Nat.{mod_below}
 use Rattle.std.proofs.lemmas.List.{get_or_past}
-use Rattle.held.specs.Explanations.{bit, contains, member, Adds}
+use Rattle.held.specs.Explanations.{bit, contains, Adds}
 
 or_bits : (x y : ℕ) → x < 2 → y < 2 → eqb (bit_or x y) 1 ≡ (eqb x 1 || eqb y 1)
 or_bits zero zero p q = refl

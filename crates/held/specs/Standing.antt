@@ -1,5 +1,5 @@
 -- What the places of the working memory stand for. R says which term stands at a place of the problem. Assumes nothing.
-use Rattle.std.specs.Prelude.{◌≡◌, ℕ, zero, suc, ◌+◌, ◌-◌, ◌<◌, ◌≤◌, List, get_or, slice_index_or}
+use Rattle.std.specs.Prelude.{◌≡◌, ℕ, zero, suc, ◌+◌, ◌<◌, ◌≤◌, List, get_or, slice_index_or}
 use Rattle.syntax.specs.Terms.{Term}
 use Rattle.judging.specs.Held.{Held, hold, free, Helds, h[], ◌h∷◌, missing}
 use Rattle.held.specs.declared.places.Held.{Held as Code}

@@ -1,4 +1,4 @@
-use Rattle.std.proofs.Common.{refl, arith, rules}
+use Rattle.std.proofs.Common.{refl, arith}
 use Rattle.held.specs.Reading.{Reads}
 use Rattle.held.proofs.Standing.{same_trans, bind_none, bind_more}
 use Rattle.held.proofs.memory.+bind.Goals as goal

@@ -12,8 +12,8 @@ returns-then-from-unknowns t c = record {
 pub returns : goal.returns
 returns t c =
     let m = c.args.memory.now in
-    let o = c.write-unknowns.new.memory in
+    let o = c.write_unknowns.new.memory in
     record {
-      same = same_trans m _ o c.args.top _ (omega arith) (same_set m c.args.top _) c.write-unknowns.ensures.same;
-      row = λ x. unknowns_more (Reads x) m o c.args.top c.args.from _ c.args.unknowns.now (omega arith) (omega arith) refl c.write-unknowns.ensures.same (c.write-unknowns.ensures.row x);
+      same = same_trans m _ o c.args.top _ (omega arith) (same_set m c.args.top _) c.write_unknowns.ensures.same;
+      row = λ x. unknowns_more (Reads x) m o c.args.top c.args.from _ c.args.unknowns.now (omega arith) (omega arith) refl c.write_unknowns.ensures.same (c.write_unknowns.ensures.row x);
     }

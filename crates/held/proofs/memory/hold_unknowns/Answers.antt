@@ -9,6 +9,6 @@ returns c =
     let us = c.args.unknowns.now in
     let all : length us - 0 ≡ length us = omega arith in
     record {
-      same = c.write-unknowns.ensures.same;
-      row = λ x. subst (λ (i : ℕ). Row (Reads x) c.write-unknowns.new.memory (c.args.top + i) c.args.top (frees us)) all (c.write-unknowns.ensures.row x);
+      same = c.write_unknowns.ensures.same;
+      row = λ x. subst (λ (i : ℕ). Row (Reads x) c.write_unknowns.new.memory (c.args.top + i) c.args.top (frees us)) all (c.write_unknowns.ensures.row x);
     }
