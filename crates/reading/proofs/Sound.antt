@@ -6,7 +6,7 @@ use Rattle.reading.specs.declared.parts.Tag.{Tag}
 use Rattle.reading.specs.declared.parts.Tag.TheVariants.{Variable, Unknown, Constructor, Call, Case, And, Not, Equal, Other}
 use Rattle.reading.specs.declared.parts.Part.{Part}
 use Rattle.reading.specs.declared.parts.Part.TheVariants.{Start, WhichVariable, WhichUnknown, OwnType, WhichConstructor, WhichFunction, SubjectType, SidesType}
-use Rattle.syntax.specs.Terms.{Term, Terms, var, unknown, con, call, case, both, equal, t[], ◌t∷◌, encode, encodes}
+use Rattle.syntax.specs.Terms.{Term, Terms, var, unknown, con, call, case, equal, t[], ◌t∷◌, encode, encodes}
 use Rattle.syntax.specs.Typing.{Sig, Want, Typed, AllTyped, each_of, arguments, params_of, cases_of, branches_of}
 use Rattle.reading.specs.Reading.{Item, item, start, starts, begins, tag_of, tag_asks, tag_makes, allows, asks, allowed, asked, makes, made, first, rest, front, after, reads}
 
