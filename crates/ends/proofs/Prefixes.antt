@@ -1,5 +1,5 @@
 -- A place in bytes has at most one typed term: by the table of ends two of them have one length. Assumes nothing.
-use Rattle.std.proofs.Common.{◌≡◌, ℕ, ◌+◌, ◌≤◌, List, ◌++◌, length, take, drop, sym, refl, ap, ◌∙◌, arith}
+use Rattle.std.proofs.Common.{◌≡◌, ℕ, ◌≤◌, List, ◌++◌, length, take, drop, sym, refl, ap, ◌∙◌, arith}
 use Rattle.std.proofs.lemmas.List.{take_at, drop_at}
 use Rattle.syntax.specs.Terms.{Term, encode}
 use Rattle.syntax.specs.Typing.{Sig, HasType}

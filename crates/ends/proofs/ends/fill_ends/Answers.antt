@@ -18,14 +18,14 @@ loop-p-preserved c =
     let back : l.p ≡ q + 1 = omega arith in
     let long : length l.next ≡ n = omega arith in
     let low : q < n = omega arith in
-    let r = c.end-of-end.result in
+    let r = c.end_of-end.result in
     let v : c.if-end-bytes.next ≡ at_most n r
     = elim c.if-end-bytes.branch [
       | then-end-bytes w ↦ w.next-is ∙ ap (λ b. cond b r n) (sym (lt-ltb r n w.if-end-bytes.true))
       | else-end-bytes w ↦ w.next-is ∙ ap (λ b. cond b r n) (sym (le-ltb r n w.if-end-bytes.false))
     ] in
     let old : Agree l.next (filled sig bytes (n - (q + 1))) (q + 1) = subst (λ k. Agree l.next (filled sig bytes (n - k)) k) back l.invariant.1 in
-    (omega arith, agree_more sig bytes l.next q c.if-end-bytes.next low long old (v ∙ ap (at_most n) c.end-of-end.ensures))
+    (omega arith, agree_more sig bytes l.next q c.if-end-bytes.next low long old (v ∙ ap (at_most n) c.end_of-end.ensures))
 
 pub returns : goal.returns
 returns c =

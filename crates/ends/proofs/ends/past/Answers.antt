@@ -9,7 +9,7 @@ loop-i-preserved c =
     let l = c.loop-i in
     let low : 0 < c.args.n - l.i = omega arith in
     let less : c.args.n - l.i - 1 ≡ c.args.n - (l.i + 1) = omega arith in
-    l.invariant ∙ hops_step next (c.args.n - l.i) l.place low ∙ ap (λ k. hops next k (hop next l.place)) less ∙ ap (hops next (c.args.n - (l.i + 1))) (sym c.past-one-place.ensures)
+    l.invariant ∙ hops_step next (c.args.n - l.i) l.place low ∙ ap (λ k. hops next k (hop next l.place)) less ∙ ap (hops next (c.args.n - (l.i + 1))) (sym c.past_one-place.ensures)
 
 pub returns : goal.returns
 returns c =
