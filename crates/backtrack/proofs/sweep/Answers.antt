@@ -12,8 +12,8 @@ use Rattle.backtrack.proofs.sweep.Goals as goal
 pub loop-at-init : goal.loop-at-init
 loop-at-init c = (c.requires.rest, pass_start c.args.row.now c.args.assumptions.now c.args.from c.args.values.now c.args.trail.now c.args.marks.now c.requires.trail)
 
-pub clause-at-next-requires : goal.clause-at-next-requires
-clause-at-next-requires c =
+pub clause_at-next-requires : goal.clause_at-next-requires
+clause_at-next-requires c =
     record {
       within = c.loop-at-test.true;
       fits = λ le. clause_fits c.args.row.now c.args.assumptions.now (length c.args.values.now) c.loop-at.at c.loop-at.invariant.0 le c.loop-at-test.true;
@@ -25,9 +25,9 @@ inspect-requires c =
     let assumptions = c.args.assumptions.now in
     let v = length c.args.values.now in
     let at = c.loop-at.at in
-    let clause = c.clause-at-next.result.0.now in
-    let next = c.clause-at-next.result.1 in
-    let step = next_read row assumptions v at c.loop-at.invariant.0 c.loop-at-test.true clause next c.clause-at-next.ensures.clause c.clause-at-next.ensures.next in
+    let clause = c.clause_at-next.result.0.now in
+    let next = c.clause_at-next.result.1 in
+    let step = next_read row assumptions v at c.loop-at.invariant.0 c.loop-at-test.true clause next c.clause_at-next.ensures.clause c.clause_at-next.ensures.next in
     subst (λ n. allotted n clause ≡ true) (sym c.loop-at.auto.values) step.named
 
 pub push-requires : goal.push-requires
@@ -46,9 +46,9 @@ loop-at-preserved c =
     let assumptions = c.args.assumptions.now in
     let v = length c.args.values.now in
     let at = c.loop-at.at in
-    let clause = c.clause-at-next.result.0.now in
-    let next = c.clause-at-next.result.1 in
-    let step = next_read row assumptions v at c.loop-at.invariant.0 c.loop-at-test.true clause next c.clause-at-next.ensures.clause c.clause-at-next.ensures.next in
+    let clause = c.clause_at-next.result.0.now in
+    let next = c.clause_at-next.result.1 in
+    let step = next_read row assumptions v at c.loop-at.invariant.0 c.loop-at-test.true clause next c.clause_at-next.ensures.clause c.clause_at-next.ensures.next in
     (step.behind, pass_met row assumptions at c.args.marks.now c.args.from c.loop-at.values c.loop-at.trail c.loop-at.marks c.loop-at.depth c.loop-at.«open» c.loop-at.invariant.1 v clause next step c.in-Met.ensures)
 
 pub loop-at-preserved-in-Open : goal.loop-at-preserved-in-Open
@@ -57,9 +57,9 @@ loop-at-preserved-in-Open c =
     let assumptions = c.args.assumptions.now in
     let v = length c.args.values.now in
     let at = c.loop-at.at in
-    let clause = c.clause-at-next.result.0.now in
-    let next = c.clause-at-next.result.1 in
-    let step = next_read row assumptions v at c.loop-at.invariant.0 c.loop-at-test.true clause next c.clause-at-next.ensures.clause c.clause-at-next.ensures.next in
+    let clause = c.clause_at-next.result.0.now in
+    let next = c.clause_at-next.result.1 in
+    let step = next_read row assumptions v at c.loop-at.invariant.0 c.loop-at-test.true clause next c.clause_at-next.ensures.clause c.clause_at-next.ensures.next in
     let known = pass_open row assumptions at c.args.marks.now c.args.from c.loop-at.values c.loop-at.trail c.loop-at.marks c.loop-at.depth c.loop-at.«open» c.loop-at.invariant.1 v clause next step c.in-Open.l c.in-Open.ensures in
     (step.behind, subst (λ o. Passing row assumptions next c.args.marks.now c.args.from c.loop-at.values c.loop-at.trail c.loop-at.marks c.loop-at.depth o) (sym c.or-open.ensures) known)
 
@@ -69,9 +69,9 @@ loop-at-preserved-in-Forced c =
     let assumptions = c.args.assumptions.now in
     let v = length c.args.values.now in
     let at = c.loop-at.at in
-    let clause = c.clause-at-next.result.0.now in
-    let next = c.clause-at-next.result.1 in
-    let step = next_read row assumptions v at c.loop-at.invariant.0 c.loop-at-test.true clause next c.clause-at-next.ensures.clause c.clause-at-next.ensures.next in
+    let clause = c.clause_at-next.result.0.now in
+    let next = c.clause_at-next.result.1 in
+    let step = next_read row assumptions v at c.loop-at.invariant.0 c.loop-at-test.true clause next c.clause_at-next.ensures.clause c.clause_at-next.ensures.next in
     let told = c.in-Forced.ensures in
     let made = c.push.ensures in
     let known = pass_push row assumptions at c.args.marks.now c.args.from c.loop-at.values c.loop-at.trail c.loop-at.marks c.loop-at.depth c.loop-at.«open» c.loop-at.invariant.1 v clause next step c.in-Forced.l told.0 told.1 in
@@ -88,9 +88,9 @@ returns-in-Clash c =
     let assumptions = c.args.assumptions.now in
     let v = length c.args.values.now in
     let at = c.loop-at.at in
-    let clause = c.clause-at-next.result.0.now in
-    let next = c.clause-at-next.result.1 in
-    let step = next_read row assumptions v at c.loop-at.invariant.0 c.loop-at-test.true clause next c.clause-at-next.ensures.clause c.clause-at-next.ensures.next in
+    let clause = c.clause_at-next.result.0.now in
+    let next = c.clause_at-next.result.1 in
+    let step = next_read row assumptions v at c.loop-at.invariant.0 c.loop-at-test.true clause next c.clause_at-next.ensures.clause c.clause_at-next.ensures.next in
     pass_ends row assumptions at c.args.marks.now c.args.from c.loop-at.values c.loop-at.trail c.loop-at.marks c.loop-at.depth c.loop-at.«open» c.loop-at.invariant.1 Clash (pass_clash row assumptions at c.args.marks.now c.args.from c.loop-at.values c.loop-at.trail c.loop-at.marks c.loop-at.depth c.loop-at.«open» c.loop-at.invariant.1 v clause next step c.in-Clash.ensures)
 
 pub returns-in-None : goal.returns-in-None

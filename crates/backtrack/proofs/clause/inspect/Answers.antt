@@ -6,13 +6,13 @@ use Rattle.backtrack.specs.Told.{Looked}
 use Rattle.backtrack.proofs.Values.{off_from}
 use Rattle.backtrack.proofs.Looks.{looked_first, looked_many, looked_off, told_clash, told_forced}
 use Rattle.backtrack.proofs.clause.inspect.Goals as goal
-use Rattle.backtrack.proofs.clause.inspect.Goals.{then-values-l-eq2+in-None, then-values-l-eq2+in-Some, else-values-l-eq2+else-is-true}
+use Rattle.backtrack.proofs.clause.inspect.Goals.{then-values-l-eq2+in-None, then-values-l-eq2+in-Some, else-values-l-eq2+else-is_true}
 
 pub bounds-values-l : goal.bounds-values-l
 bounds-values-l c = omega (arith, allotted_at (length c.args.values.now) c.args.clause.now c.loop-l.l-index c.requires c.loop-l-test.true)
 
-pub is-true-requires : goal.is-true-requires
-is-true-requires c = omega (arith, allotted_at (length c.args.values.now) c.args.clause.now c.loop-l.l-index c.requires c.loop-l-test.true)
+pub is_true-requires : goal.is_true-requires
+is_true-requires c = omega (arith, allotted_at (length c.args.values.now) c.args.clause.now c.loop-l.l-index c.requires c.loop-l-test.true)
 
 pub loop-l-preserved : goal.loop-l-preserved
 loop-l-preserved c =
@@ -28,13 +28,13 @@ loop-l-preserved c =
       | then-values-l-eq2+in-Some w ↦
           to _ _ _ _ w.many-is (w.open-is ∙ w.in-Some.is)
           (looked_many values clause i w.in-Some.field-0 c.loop-l.many (subst (λ o. Looked values clause i c.loop-l.many o) w.in-Some.is c.loop-l.invariant))
-      | else-values-l-eq2+else-is-true w ↦
+      | else-values-l-eq2+else-is_true w ↦
           to _ _ _ _ w.many-is w.open-is
-          (looked_off values clause i c.loop-l.many c.loop-l.«open» (off_from values (get_or clause i 0) (omega arith) w.if-values-l-eq2.false (sym w.if-is-true.ensures)) c.loop-l.invariant)
+          (looked_off values clause i c.loop-l.many c.loop-l.«open» (off_from values (get_or clause i 0) (omega arith) w.if-values-l-eq2.false (sym w.if-is_true.ensures)) c.loop-l.invariant)
     ]
 
-pub returns-then-is-true : goal.returns-then-is-true
-returns-then-is-true c = some_at (lit (written c.args.values.now)) c.args.clause.now c.loop-l.l-index c.loop-l-test.true (sym c.if-is-true.ensures)
+pub returns-then-is_true : goal.returns-then-is_true
+returns-then-is_true c = some_at (lit (written c.args.values.now)) c.args.clause.now c.loop-l.l-index c.loop-l-test.true (sym c.if-is_true.ensures)
 
 pub returns-in-None-open : goal.returns-in-None-open
 returns-in-None-open c =
