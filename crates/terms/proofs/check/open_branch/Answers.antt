@@ -24,10 +24,10 @@ returns-in-Some c =
     let x = Branches of next ty cut in
     let rest = Branches of (next + 1) ty cut in
     subst (Opens sig s s' x) (sym c.opened.ensures)
-    (opened sig s s' (λ tys. want (take cut s ++ tys) ty) cs [] next x rest (term_first ty c.in-Some.inner c.if-any.result) c.requires.left refl
+    (opened sig s s' (λ tys. want (take cut s ++ tys) ty) cs [] next x rest (term_first ty c.in-Some.inner c.if_any.result) c.requires.left refl
     (ap (λ r. starts (map (λ tys. want (r ++ tys) ty) (drop (next + 1) cs))) b.same)
     refl (λ l. l)
-    (c.if-any.ensures ∙ ap (λ k. cond (ltb (next + 1) k) (Some rest) None) c.cases-n.ensures)
+    (c.if_any.ensures ∙ ap (λ k. cond (ltb (next + 1) k) (Some rest) None) c.cases-n.ensures)
     (ap (λ r. item Start r ty) (b.is ∙ ap (λ tys. take cut s ++ tys) c.constructor.ensures))
     b.same lo b.few)
 

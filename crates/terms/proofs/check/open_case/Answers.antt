@@ -12,5 +12,5 @@ returns c s =
     let ty = c.args.ty in
     let cut = c.args.cut in
     subst (Opens sig s s (Case of ty cut)) (sym c.opened.ensures)
-    (case_opened sig s of ty cut c.if-any.result c.requires
-    (c.if-any.ensures ∙ ap (λ k. cond (ltb 0 k) (Some (Branches of 0 ty cut)) None) c.cases.ensures))
+    (case_opened sig s of ty cut c.if_any.result c.requires
+    (c.if_any.ensures ∙ ap (λ k. cond (ltb 0 k) (Some (Branches of 0 ty cut)) None) c.cases.ensures))

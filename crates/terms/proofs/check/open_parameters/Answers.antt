@@ -8,11 +8,11 @@ use Rattle.terms.specs.Tasks.{Opens, term_first}
 use Rattle.terms.proofs.Opening.{opened}
 use Rattle.terms.proofs.check.open_parameters.Goals as goal
 
-pub overflow-add-next : goal.overflow-add-next
-overflow-add-next c = omega (arith, ap length c.parameters-list.ensures)
+pub overflow_add-next : goal.overflow_add-next
+overflow_add-next c = omega (arith, ap length c.parameters-list.ensures)
 
-pub type-at-requires : goal.type-at-requires
-type-at-requires c = omega (arith, ap length c.parameters-list.ensures)
+pub type_at-requires : goal.type_at-requires
+type_at-requires c = omega (arith, ap length c.parameters-list.ensures)
 
 pub returns : goal.returns
 returns c s =
@@ -24,7 +24,7 @@ returns c s =
     let rest = Parameters c.args.of (next + 1) cut in
     let lo : cut ≤ cut = omega arith in
     subst (Opens sig s s x) (sym c.opened.ensures)
-    (opened sig s s (want (take cut s)) tys 0 next x rest (term_first c.type-at.result cut c.if-any.result) c.requires.left refl refl refl (λ l. l)
-    (c.if-any.ensures ∙ ap (λ k. cond (ltb (next + 1) k) (Some rest) None) (c.size-n.ensures ∙ ap length c.parameters-list.ensures))
-    (ap (λ ty. item Start (take cut s) ty) (c.type-at.ensures ∙ ap (λ ts. get_or ts next 0) c.parameters-list.ensures))
+    (opened sig s s (want (take cut s)) tys 0 next x rest (term_first c.type_at.result cut c.if_any.result) c.requires.left refl refl refl (λ l. l)
+    (c.if_any.ensures ∙ ap (λ k. cond (ltb (next + 1) k) (Some rest) None) (c.size-n.ensures ∙ ap length c.parameters-list.ensures))
+    (ap (λ ty. item Start (take cut s) ty) (c.type_at.ensures ∙ ap (λ ts. get_or ts next 0) c.parameters-list.ensures))
     refl lo c.requires.few)

@@ -8,10 +8,10 @@ pub returns-in-WhichConstructor : goal.returns-in-WhichConstructor
 returns-in-WhichConstructor c =
     let sig = declared_in c.args.sig in
     let s = c.args.scope.now in
-    subst (λ p. Steps sig s (item p (take c.args.cut s) c.args.ty) c.args.cut c.args.b c.read-constructor.result) (sym c.in-WhichConstructor.is) (c.read-constructor.ensures s)
+    subst (λ p. Steps sig s (item p (take c.args.cut s) c.args.ty) c.args.cut c.args.b c.read_constructor.result) (sym c.in-WhichConstructor.is) (c.read_constructor.ensures s)
 
 pub returns-in-WhichFunction : goal.returns-in-WhichFunction
 returns-in-WhichFunction c =
     let sig = declared_in c.args.sig in
     let s = c.args.scope.now in
-    subst (λ p. Steps sig s (item p (take c.args.cut s) c.args.ty) c.args.cut c.args.b c.read-function.result) (sym c.in-WhichFunction.is) (c.read-function.ensures s)
+    subst (λ p. Steps sig s (item p (take c.args.cut s) c.args.ty) c.args.cut c.args.b c.read_function.result) (sym c.in-WhichFunction.is) (c.read_function.ensures s)
