@@ -1,11 +1,10 @@
 -- No place is named exactly if every type number outside terms names a type: list by list, from the meaning of `first-from`.
-use Rattle.std.proofs.Common.{◌≡◌, ℕ, ◌+◌, ◌<◌, ◌≤◌, Bool, true, false, cond, ltb, List, [], ◌∷◌, ◌++◌, length, Some, None, Option, sym, refl, ap, ◌∙◌, arith, ltb-true, lt-ltb}
-use Rattle.syntax.specs.Typing.{Sig, Declared}
+use Rattle.std.proofs.Common.{◌≡◌, ℕ, ◌+◌, ◌<◌, Bool, true, false, cond, ltb, List, [], ◌∷◌, ◌++◌, length, Some, None, Option, sym, refl, ap, ◌∙◌, arith, ltb-true, lt-ltb}
 use Rattle.syntax.specs.Problems.{Each, encode_type}
 use Rattle.records.specs.Raw.{Raw, RawFunction, write_function}
 use Rattle.tables.specs.Tabled.{declared_by, functions_start, unknowns_start}
 use Rattle.declarations.specs.Numbers.{Number, number, in_list, in_cases, in_types, in_profile, in_functions, in_unknowns, first_from, undeclared}
-use Rattle.declarations.specs.Laws.{AllDeclared, NoneUndeclared, UndeclaredIsExact}
+use Rattle.declarations.specs.Laws.{AllDeclared, UndeclaredIsExact}
 use Rattle.declarations.proofs.First.{otherwise, first_joined}
 
 no_place : {A : Type 0} {q : ℕ} → ◌≡◌ {A = Option ℕ} (Some q) None → A

@@ -1,5 +1,5 @@
 -- The tables hold the records' type numbers at the records' places.
-use Rattle.std.proofs.Common.{◌≡◌, ℕ, ◌+◌, ◌<◌, ◌≤◌, List, [], ◌∷◌, ◌++◌, map, length, sym, refl, ap, ◌∙◌, arith}
+use Rattle.std.proofs.Common.{◌≡◌, ℕ, ◌+◌, List, [], ◌∷◌, ◌++◌, map, length, refl, ap, ◌∙◌, arith}
 use Rattle.syntax.specs.declared.tables.Datatype.{Datatype}
 use Rattle.syntax.specs.declared.tables.Callable.{Callable}
 use Rattle.syntax.specs.declared.tables.Signature.{Signature}
@@ -7,8 +7,8 @@ use Rattle.syntax.specs.Tables.{listed, cases_in, profile_in}
 use Rattle.syntax.specs.Typing.{Profile}
 use Rattle.syntax.specs.Problems.{bool, encode_type}
 use Rattle.records.specs.Raw.{Raw, RawFunction, write_function}
-use Rattle.tables.specs.Tabled.{places_of, mark_at, functions_start, unknowns_start, Declares}
-use Rattle.declarations.specs.Numbers.{Number, in_cases, in_types, in_profile, in_functions, in_unknowns, numbers_in, of_types, of_functions, of_tables}
+use Rattle.tables.specs.Tabled.{places_of, mark_at, functions_start, Declares}
+use Rattle.declarations.specs.Numbers.{in_cases, in_types, in_profile, in_functions, in_unknowns, numbers_in, of_types, of_functions, of_tables}
 
 apart : {A B : Type 0} {x : B} {xs : List B} → ◌≡◌ {A = List B} [] (x ∷ xs) → A
 apart e = let z : ◌≡◌ {A = ℕ} 0 1 = cc in absurd (omega arith)

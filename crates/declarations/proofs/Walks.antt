@@ -1,11 +1,11 @@
 -- The walks over the constructors of a type, over types and over functions: an item that has no undeclared type is passed, and
 -- the first that has one stops the walk.
-use Rattle.std.proofs.Common.{◌≡◌, ℕ, ◌+◌, ◌<◌, ◌≤◌, List, [], ◌∷◌, ◌++◌, map, length, get_or, take, drop, Some, None, Option, sym, refl, ap, ◌∙◌, subst}
+use Rattle.std.proofs.Common.{◌≡◌, ℕ, ◌+◌, ◌<◌, ◌≤◌, List, [], map, length, get_or, take, drop, Some, None, sym, refl, ap, ◌∙◌}
 use Rattle.syntax.specs.declared.tables.TypeList.{TypeList}
 use Rattle.syntax.specs.declared.tables.Datatype.{Datatype}
 use Rattle.syntax.specs.declared.tables.Callable.{Callable}
 use Rattle.syntax.specs.Tables.{listed, cases_in}
-use Rattle.declarations.specs.Numbers.{Number, number, in_list, in_cases, in_profile, in_unknowns, first_from, of_types, of_functions}
+use Rattle.declarations.specs.Numbers.{Number, in_list, in_cases, in_profile, first_from, of_types, of_functions}
 use Rattle.declarations.proofs.First.{passes, stops, ends}
 
 -- what a read past the end of a table gives

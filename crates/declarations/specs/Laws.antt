@@ -1,8 +1,8 @@
 -- What it means that no type number is refused. Assumes nothing.
-use Rattle.std.specs.Prelude.{◌≡◌, ℕ, List, None}
-use Rattle.syntax.specs.Typing.{Sig, Declared}
+use Rattle.std.specs.Prelude.{◌≡◌, None}
+use Rattle.syntax.specs.Typing.{Declared}
 use Rattle.syntax.specs.Problems.{Each}
-use Rattle.records.specs.Raw.{Raw, RawFunction}
+use Rattle.records.specs.Raw.{Raw}
 use Rattle.tables.specs.Tabled.{declared_by}
 use Rattle.declarations.specs.Numbers.{undeclared}
 

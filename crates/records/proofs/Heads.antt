@@ -1,5 +1,5 @@
 -- What the definitions of reading say where bytes stand and where they lack. Assumes nothing.
-use Rattle.std.proofs.Common.{◌≡◌, ℕ, ◌+◌, ◌-◌, ◌<◌, ◌≤◌, Bool, true, false, ◌&&◌, eqb, leb, List, [], ◌∷◌, length, get_or, take, drop, Err, sym, refl, ap, ◌∙◌, arith}
+use Rattle.std.proofs.Common.{◌≡◌, ℕ, ◌+◌, ◌<◌, ◌≤◌, Bool, true, false, ◌&&◌, eqb, leb, List, [], ◌∷◌, length, get_or, take, drop, Err, sym, refl, ap, ◌∙◌, arith}
 use Rattle.std.proofs.lemmas.List.{at_drop_more, at_drop_all, drop-drop, length-drop}
 use Rattle.std.proofs.lemmas.Bool.{true≢false, false≢true, le-leb, lt-leb, cond-true, cond-false}
 use Rattle.syntax.specs.declared.faults.Reason.TheVariants.{PastEnd}

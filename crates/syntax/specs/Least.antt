@@ -1,7 +1,7 @@
 -- Least depths and needs, computed. Assumes nothing.
-use Rattle.std.specs.Prelude.{◌≡◌, List, [], ◌∷◌, Bool, true, false, cond, ℕ, zero, suc, ◌+◌, ◌-◌, ◌≤◌, ◌<◌, max, leb}
+use Rattle.std.specs.Prelude.{◌≡◌, List, [], ◌∷◌, cond, ℕ, zero, suc, ◌+◌, ◌-◌, ◌≤◌, max, leb}
 use Rattle.std.proofs.Math.Option.{Option, none, some}
-use Rattle.syntax.specs.Typing.{Sig, Declared, cases_of, arguments}
+use Rattle.syntax.specs.Typing.{Sig, cases_of, arguments}
 use Rattle.syntax.specs.Values.{Value, Values, build, v[], ◌v∷◌, cost, Shallow, IsLeast}
 
 abbrev pub both_of : Option Value → Option Values → Option Values

@@ -1,5 +1,5 @@
 -- What the code's tables of declarations stand for. Assumes nothing.
-use Rattle.std.specs.Prelude.{List, [], ◌∷◌, map, ℕ, take}
+use Rattle.std.specs.Prelude.{List, map, ℕ, take}
 use Rattle.syntax.specs.declared.tables.TypeList.{TypeList}
 use Rattle.syntax.specs.declared.tables.Datatype.{Datatype}
 use Rattle.syntax.specs.declared.tables.Callable.{Callable}

@@ -10,7 +10,7 @@ returns-in-Some c =
 pub loop-function-preserved : goal.loop-function-preserved
 loop-function-preserved c =
     c.loop-function.invariant
-    ∙ functions_pass c.args.known c.args.functions.now c.loop-function.function-index c.loop-function-test.true c.in-default.ensures
+    ∙ functions_pass c.args.known c.args.functions.now c.loop-function.function-index c.loop-function-test.true c.in_default.ensures
 
 pub returns : goal.returns
 returns c =

@@ -1,4 +1,4 @@
-use Rattle.std.proofs.Common.{◌≡◌, ◌+◌, cond, [], ◌∷◌, drop, Some, None, sym, refl, ap, ◌∙◌, add-zero, add_assoc, arith, le-ltb, lt-ltb}
+use Rattle.std.proofs.Common.{◌+◌, cond, [], ◌∷◌, drop, Some, None, sym, refl, ap, ◌∙◌, add-zero, add_assoc, le-ltb, lt-ltb}
 use Rattle.declarations.specs.Numbers.{number, in_list, first_from}
 use Rattle.declarations.proofs.First.{passes, stops, ends}
 use Rattle.declarations.proofs.in_list.Goals as goal

@@ -12,7 +12,7 @@ pub loop-datatype-preserved : goal.loop-datatype-preserved
 loop-datatype-preserved c =
     c.loop-datatype.invariant
     ∙ types_pass c.args.known c.args.types.now c.loop-datatype.datatype-index c.loop-datatype-test.true
-    c.cases_in.result.now c.cases_in.ensures.is c.in-default.ensures
+    c.cases_in.result.now c.cases_in.ensures.is c.in_default.ensures
 
 pub returns : goal.returns
 returns c =

@@ -5,33 +5,33 @@ use Rattle.records.specs.Next.{lists_in, Lists}
 use Rattle.tables.proofs.Entries.{list_at, constructor_push}
 use Rattle.tables.proofs.sections.datatype.Goals as goal
 
-pub overflow-add-end : goal.overflow-add-end
-overflow-add-end c = let low = (list_at c.args.item.constructors.now c.loop-c.place c.from-count.result c.loop-c.c c.loop-c-test.true c.loop-c.invariant.1).low in search rules
+pub overflow_add-end : goal.overflow_add-end
+overflow_add-end c = let low = (list_at c.args.item.constructors.now c.loop-c.place c.from-count.result c.loop-c.c c.loop-c-test.true c.loop-c.invariant.1).low in search rules
 
 pub bounds-item-place : goal.bounds-item-place
 bounds-item-place c = (list_at c.args.item.constructors.now c.loop-c.place c.from-count.result c.loop-c.c c.loop-c-test.true c.loop-c.invariant.1).low
 
-pub overflow-add-end-in-loop-c : goal.overflow-add-end-in-loop-c
-overflow-add-end-in-loop-c c =
+pub overflow_add-end-in-loop-c : goal.overflow_add-end-in-loop-c
+overflow_add-end-in-loop-c c =
     let f = list_at c.args.item.constructors.now c.loop-c.place c.from-count.result c.loop-c.c c.loop-c-test.true c.loop-c.invariant.1 in
     let fits = f.fits in
     let is = c.from.ensures in
     let low : c.loop-c.place + 1 + c.from.result ≤ length c.args.item.constructors.now = omega arith in
     search rules
 
-pub overflow-add-place : goal.overflow-add-place
-overflow-add-place c = let low = (list_at c.args.item.constructors.now c.loop-c.place c.from-count.result c.loop-c.c c.loop-c-test.true c.loop-c.invariant.1).low in search rules
+pub overflow_add-place : goal.overflow_add-place
+overflow_add-place c = let low = (list_at c.args.item.constructors.now c.loop-c.place c.from-count.result c.loop-c.c c.loop-c-test.true c.loop-c.invariant.1).low in search rules
 
-pub slice-bounds-type-list-end : goal.slice-bounds-type-list-end
-slice-bounds-type-list-end c =
+pub slice_bounds-type_list-end : goal.slice_bounds-type_list-end
+slice_bounds-type_list-end c =
     let f = list_at c.args.item.constructors.now c.loop-c.place c.from-count.result c.loop-c.c c.loop-c-test.true c.loop-c.invariant.1 in
     let fits = f.fits in
     let is = c.from.ensures in
     let low : c.loop-c.place + 1 + c.from.result ≤ length c.args.item.constructors.now = omega arith in
     search rules
 
-pub type-list-requires : goal.type-list-requires
-type-list-requires c =
+pub type_list-requires : goal.type_list-requires
+type_list-requires c =
     let f = list_at c.args.item.constructors.now c.loop-c.place c.from-count.result c.loop-c.c c.loop-c-test.true c.loop-c.invariant.1 in
     let n = c.loop-c.place + 1 + c.from.result - (c.loop-c.place + 1) in
     let few : n ≤ 6 = omega (arith, f.few, c.from.ensures) in
@@ -45,14 +45,14 @@ loop-c-preserved c =
     let n = c.from-count.result in
     let i = c.loop-c.c in
     let table = c.loop-c.constructors in
-    let t = c.type-list.result in
+    let t = c.type_list.result in
     let inv = c.loop-c.invariant in
     let f = list_at c.args.item.constructors.now c.loop-c.place c.from-count.result c.loop-c.c c.loop-c-test.true c.loop-c.invariant.1 in
     let k = get_or lists place 0 in
     let end : place + 1 + k ≡ place + 1 + c.from.result = omega (arith, c.from.ensures) in
     let size : place + 1 + c.from.result - (place + 1) ≡ k = omega (arith, c.from.ensures) in
     let low : i < length table = omega (arith, inv.0) in
-    let is : listed t ≡ take k (drop (place + 1) lists) = c.type-list.ensures ∙ ap (λ z. take z (drop (place + 1) lists)) size in (
+    let is : listed t ≡ take k (drop (place + 1) lists) = c.type_list.ensures ∙ ap (λ z. take z (drop (place + 1) lists)) size in (
       length-set table i t ∙ inv.0,
       subst (λ z. Lists (n - (i + 1)) (drop z lists)) end f.others,
       ap (λ z. map listed (take (i + 1) (set table i t)) ++ lists_in (n - (i + 1)) (drop z lists)) (sym end)

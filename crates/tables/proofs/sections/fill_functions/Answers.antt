@@ -15,12 +15,12 @@ use Rattle.tables.proofs.sections.fill_functions.Goals as goal
 pub loop-item-init : goal.loop-item-init
 loop-item-init c = record { value = []; section = upto_none function_of write_function 0x46 0x4E 64 c.args.reader.now; held = record { long = refl; are = refl; marks = refl; bodies = refl; inside = λ k d low. absurd (omega arith) } }
 
-pub returns-in-err-item : goal.returns-in-err-item
-returns-in-err-item c =
+pub returns-in_err-item : goal.returns-in_err-item
+returns-in_err-item c =
     let l = c.loop-item in
     let room : 64 - l.n ≡ 64 - length l.invariant.value = omega (arith, l.invariant.held.long) in
-    let f = upto_refused l.invariant.section (64 - l.n) room c.in-err-item.ensures.1 in
-    let p = err_from_is_err_and c.from-residual.result c.from-residual.ensures.1 in
+    let f = upto_refused l.invariant.section (64 - l.n) room c.in_err-item.ensures.1 in
+    let p = err_from_is_err_and c.from_residual.result c.from_residual.ensures.1 in
     rw (p.1, p.2) f
 
 pub loop-item-preserved : goal.loop-item-preserved
@@ -28,9 +28,9 @@ loop-item-preserved c =
     let l = c.loop-item in
     let r = l.reader in
     let x = c.in-Some.item in
-    let after = c.next-function.new.self in
+    let after = c.next_function.new.self in
     let room : 64 - l.n ≡ 64 - length l.invariant.value = omega (arith, l.invariant.held.long) in
-    let h = subst (λ o. Hands (next function_of 0x46 0x4E (64 - l.n) (ahead_of r) r.at) function_held write_function (FunctionHeld r.at) r after (Ok o)) c.in-Some.is c.in-ok-item.ensures in
+    let h = subst (λ o. Hands (next function_of 0x46 0x4E (64 - l.n) (ahead_of r) r.at) function_held write_function (FunctionHeld r.at) r after (Ok o)) c.in-Some.is c.in_ok-item.ensures in
     let u = upto_more l.invariant.section (64 - l.n) room after (function_held x) h.0 h.1 h.2 in
     let place = place_after c.args.reader.now r (concat write_function l.invariant.value) l.invariant.section.same l.invariant.section.front in
     let f = function_held x in
@@ -54,7 +54,7 @@ returns c =
     let l = c.loop-item in
     let r = l.reader in
     let room : 64 - l.n ≡ 64 - length l.invariant.value = omega (arith, l.invariant.held.long) in
-    let after = c.next-function.new.self in
-    let h = subst (λ o. Hands (next function_of 0x46 0x4E (64 - l.n) (ahead_of r) r.at) function_held write_function (FunctionHeld r.at) r after (Ok o)) c.in-default.is c.in-ok-item.ensures in
+    let after = c.next_function.new.self in
+    let h = subst (λ o. Hands (next function_of 0x46 0x4E (64 - l.n) (ahead_of r) r.at) function_held write_function (FunctionHeld r.at) r after (Ok o)) c.in_default.is c.in_ok-item.ensures in
     let u = upto_all l.invariant.section (64 - l.n) room h.1 in
     record { value = l.invariant.value; section = subst (λ s. Section function_of write_function 0x46 0x4E 64 c.args.reader.now s l.invariant.value) (sym h.0) u; held = l.invariant.held }

@@ -5,18 +5,18 @@ use Rattle.verdict.proofs.Exact.{says_ok, says_err}
 use Rattle.verdict.proofs.Accepting.{accepted_encodes}
 use Rattle.verdict.proofs.check.check_with.Goals as goal
 
-pub returns-in-err-examine : goal.returns-in-err-examine
-returns-in-err-examine c =
-    let p = err_from_is_err_and c.from-residual.result c.from-residual.ensures.1 in
-    let e = c.in-err-examine.ensures in
+pub returns-in_err-examine : goal.returns-in_err-examine
+returns-in_err-examine c =
+    let p = err_from_is_err_and c.from_residual.result c.from_residual.ensures.1 in
+    let e = c.in_err-examine.ensures in
     record {
       exact = rw (p.1, p.2) (sym (ap checked e));
-      says = rw p.1 (says_err c.args.bytes.now c.in-err-examine.field-0.0 e);
+      says = rw p.1 (says_err c.args.bytes.now c.in_err-examine.field-0.0 e);
     }
 
 pub returns : goal.returns
 returns c =
-    let a = c.in-ok-examine.ensures in
+    let a = c.in_ok-examine.ensures in
     record {
       exact = sym (ap checked a.is);
       says = says_ok c.args.bytes.now a.problem a.is (accepted_encodes a);

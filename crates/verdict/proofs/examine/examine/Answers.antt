@@ -5,40 +5,40 @@ use Rattle.verdict.proofs.Examining.{low, fit_functions, declares_part, locates_
 use Rattle.verdict.proofs.examine.examine.Goals as goal
 
 -- what the tables hold, where their fronts are passed on
-pub check-types-requires : goal.check-types-requires
-check-types-requires c =
-    let n = c.in-ok-counts.counts in
-    let t = c.in-ok-counts.ensures.reads in
+pub check_types-requires : goal.check_types-requires
+check_types-requires c =
+    let n = c.in_ok-counts.counts in
+    let t = c.in_ok-counts.ensures.reads in
     let few = t.1.within.few_types in
     let count = t.1.types_count in
-    let long = c.read-records.auto.types in
+    let long = c.read_records.auto.types in
     let wide = c.requires.types in
     let deep = c.requires.least in
     let one : n.types ≤ length c.args.least.now = omega arith in
-    let two : n.types ≤ length c.read-records.new.types = omega arith in
+    let two : n.types ≤ length c.read_records.new.types = omega arith in
     record {
       low =
           low t.0 _ n.start t.1.within
-          (declares_part t.0 c.read-records.new.types c.read-records.new.functions c.read-records.new.unknowns n.types n.functions n.unknowns n.start t.1.declares);
-      long = same_fronts n.types c.args.least.now c.read-records.new.types one two;
+          (declares_part t.0 c.read_records.new.types c.read_records.new.functions c.read_records.new.unknowns n.types n.functions n.unknowns n.start t.1.declares);
+      long = same_fronts n.types c.args.least.now c.read_records.new.types one two;
     }
 
-pub returns-in-err-check-types : goal.returns-in-err-check-types
-returns-in-err-check-types c =
-    let n = c.in-ok-counts.counts in
-    let t = c.in-ok-counts.ensures.reads in
-    let p = err_from_is_err_and c.from-residual-in-err-check-types.result c.from-residual-in-err-check-types.ensures.1 in
+pub returns-in_err-check_types : goal.returns-in_err-check_types
+returns-in_err-check_types c =
+    let n = c.in_ok-counts.counts in
+    let t = c.in_ok-counts.ensures.reads in
+    let p = err_from_is_err_and c.from_residual-in_err-check_types.result c.from_residual-in_err-check_types.ensures.1 in
     rw (p.1, p.2)
-    (by_types c.args.bytes.now t.0 c.in-err-check-types.field-0.0 t.1.read
-    (c.in-err-check-types.ensures.exact t.0
-    (declares_part t.0 c.read-records.new.types c.read-records.new.functions c.read-records.new.unknowns n.types n.functions n.unknowns n.start t.1.declares)))
+    (by_types c.args.bytes.now t.0 c.in_err-check_types.field-0.0 t.1.read
+    (c.in_err-check_types.ensures.exact t.0
+    (declares_part t.0 c.read_records.new.types c.read_records.new.functions c.read_records.new.unknowns n.types n.functions n.unknowns n.start t.1.declares)))
 
-pub check-terms-requires : goal.check-terms-requires
-check-terms-requires c =
-    let n = c.in-ok-counts.counts in
-    let t = c.in-ok-counts.ensures.reads in
-    let d = declares_part t.0 c.read-records.new.types c.read-records.new.functions c.read-records.new.unknowns n.types n.functions n.unknowns n.start t.1.declares in
-    let l = locates_part c.args.bytes.now t.0 c.read-records.new.functions c.read-records.new.goals n.functions n.goals t.1.locates in
+pub check_terms-requires : goal.check_terms-requires
+check_terms-requires c =
+    let n = c.in_ok-counts.counts in
+    let t = c.in_ok-counts.ensures.reads in
+    let d = declares_part t.0 c.read_records.new.types c.read_records.new.functions c.read_records.new.unknowns n.types n.functions n.unknowns n.start t.1.declares in
+    let l = locates_part c.args.bytes.now t.0 c.read_records.new.functions c.read_records.new.goals n.functions n.goals t.1.locates in
     let short = t.1.within.short in
     let same = ap length t.1.written in
     let all : length c.args.bytes.now ≤ 16384 = omega arith in
@@ -48,24 +48,24 @@ check-terms-requires c =
       room = c.requires.room all;
     }
 
-pub returns-in-err-check-terms : goal.returns-in-err-check-terms
-returns-in-err-check-terms c =
-    let n = c.in-ok-counts.counts in
-    let t = c.in-ok-counts.ensures.reads in
-    let d = declares_part t.0 c.read-records.new.types c.read-records.new.functions c.read-records.new.unknowns n.types n.functions n.unknowns n.start t.1.declares in
-    let l = locates_part c.args.bytes.now t.0 c.read-records.new.functions c.read-records.new.goals n.functions n.goals t.1.locates in
-    let p = err_from_is_err_and c.from-residual-in-err-check-terms.result c.from-residual-in-err-check-terms.ensures.1 in
+pub returns-in_err-check_terms : goal.returns-in_err-check_terms
+returns-in_err-check_terms c =
+    let n = c.in_ok-counts.counts in
+    let t = c.in_ok-counts.ensures.reads in
+    let d = declares_part t.0 c.read_records.new.types c.read_records.new.functions c.read_records.new.unknowns n.types n.functions n.unknowns n.start t.1.declares in
+    let l = locates_part c.args.bytes.now t.0 c.read_records.new.functions c.read_records.new.goals n.functions n.goals t.1.locates in
+    let p = err_from_is_err_and c.from_residual-in_err-check_terms.result c.from_residual-in_err-check_terms.ensures.1 in
     rw (p.1, p.2)
-    (by_terms c.args.bytes.now t.0 t.1.read (c.in-ok-check-types.ensures.exact t.0 d)
-    ∙ terms_refused c.args.bytes.now t.0 _ _ l _ (declared_same t.0 _ _ _ n.start d) c.in-err-check-terms.field-0.0 c.in-err-check-terms.ensures)
+    (by_terms c.args.bytes.now t.0 t.1.read (c.in_ok-check_types.ensures.exact t.0 d)
+    ∙ terms_refused c.args.bytes.now t.0 _ _ l _ (declared_same t.0 _ _ _ n.start d) c.in_err-check_terms.field-0.0 c.in_err-check_terms.ensures)
 
 pub returns : goal.returns
 returns c =
-    let n = c.in-ok-counts.counts in
-    let t = c.in-ok-counts.ensures.reads in
-    let d = declares_part t.0 c.read-records.new.types c.read-records.new.functions c.read-records.new.unknowns n.types n.functions n.unknowns n.start t.1.declares in
-    let l = locates_part c.args.bytes.now t.0 c.read-records.new.functions c.read-records.new.goals n.functions n.goals t.1.locates in
-    let a = terms_accepted c.args.bytes.now t.0 _ _ l _ (declared_same t.0 _ _ _ n.start d) c.in-ok-check-terms.ensures in
+    let n = c.in_ok-counts.counts in
+    let t = c.in_ok-counts.ensures.reads in
+    let d = declares_part t.0 c.read_records.new.types c.read_records.new.functions c.read_records.new.unknowns n.types n.functions n.unknowns n.start t.1.declares in
+    let l = locates_part c.args.bytes.now t.0 c.read_records.new.functions c.read_records.new.goals n.functions n.goals t.1.locates in
+    let a = terms_accepted c.args.bytes.now t.0 _ _ l _ (declared_same t.0 _ _ _ n.start d) c.in_ok-check_terms.ensures in
     let few = t.1.within.few_types in
     let count = t.1.types_count in
     let deep = c.requires.least in
@@ -75,8 +75,8 @@ returns c =
       problem = a.0;
       tabled = t.1;
       terms = a.1;
-      is = by_terms c.args.bytes.now t.0 t.1.read (c.in-ok-check-types.ensures.exact t.0 d) ∙ a.1;
+      is = by_terms c.args.bytes.now t.0 t.1.read (c.in_ok-check_types.ensures.exact t.0 d) ∙ a.1;
       leasts =
-          leasts_written _ (declared_by t.0) n.types c.check-types.new.least _ c.args.least.now (declared_same t.0 _ _ _ n.start d)
-          c.check-types.auto.least fits (c.in-ok-check-types.ensures.leasts refl);
+          leasts_written _ (declared_by t.0) n.types c.check_types.new.least _ c.args.least.now (declared_same t.0 _ _ _ n.start d)
+          c.check_types.auto.least fits (c.in_ok-check_types.ensures.leasts refl);
     }

@@ -10,6 +10,6 @@ returns c =
     let sig = declared_in c.args.sig in
     let bs = c.args.bytes.now in
     let same : (f.body.start + f.body.len) - f.body.start ≡ f.body.len = omega arith in
-    c.check-term.ensures.exact
+    c.check_term.ensures.exact
     ∙ (ap (λ vs. verdict (reading sig vs f.result f.body.start (take ((f.body.start + f.body.len) - f.body.start) (drop f.body.start bs)))) c.types_in.ensures.is
     ∙ ap (λ n. verdict (reading sig (listed f.params) f.result f.body.start (take n (drop f.body.start bs)))) same)

@@ -7,5 +7,5 @@ pub returns : goal.returns
 returns c =
     let g = c.args.goal.now in
     let same : (g.start + g.len) - g.start ≡ g.len = omega arith in
-    c.check-term.ensures.exact
+    c.check_term.ensures.exact
     ∙ ap (λ n. verdict (reading (declared_in c.args.sig) [] 0 g.start (take n (drop g.start c.args.bytes.now)))) same

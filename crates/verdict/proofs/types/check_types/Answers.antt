@@ -11,18 +11,18 @@ returns-in-Some c =
       leasts = λ e. never_ok e;
     }
 
-pub returns-in-Some-least-depths : goal.returns-in-Some-least-depths
-returns-in-Some-least-depths c =
+pub returns-in-Some-least_depths : goal.returns-in-Some-least_depths
+returns-in-Some-least_depths c =
     record {
       exact =
-          λ raw h. ap Err c.at-in-Some-least-depths.ensures
-          ∙ types_deep c.args.sig c.args.start raw h c.in-default.ensures c.in-Some-least-depths.t c.in-Some-least-depths.ensures.first no_type;
+          λ raw h. ap Err c.at-in-Some-least_depths.ensures
+          ∙ types_deep c.args.sig c.args.start raw h c.in_default.ensures c.in-Some-least_depths.t c.in-Some-least_depths.ensures.first no_type;
       leasts = λ e. never_ok e;
     }
 
 pub returns-in-None : goal.returns-in-None
 returns-in-None c =
     record {
-      exact = λ raw h. types_fine c.args.sig c.args.start raw h c.in-default.ensures c.in-None.ensures.first;
-      leasts = λ e. c.least-depths.ensures.each;
+      exact = λ raw h. types_fine c.args.sig c.args.start raw h c.in_default.ensures c.in-None.ensures.first;
+      leasts = λ e. c.least_depths.ensures.each;
     }

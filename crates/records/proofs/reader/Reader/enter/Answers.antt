@@ -2,10 +2,10 @@ use Rattle.std.proofs.Common.{sym, refl, arith}
 use Rattle.records.proofs.Nexts.{starts_long, entered}
 use Rattle.records.proofs.reader.Reader.enter.Goals as goal
 
-pub invariant-of-self : goal.invariant-of-self
-invariant-of-self c =
+pub invariant_of-self : goal.invariant_of-self
+invariant_of-self c =
     let s = c.args.self.now in
-    (starts_long s.bytes.now s.at c.args.high c.args.low (sym c.if-not-starts.ensures), tt)
+    record { within = starts_long s.bytes.now s.at c.args.high c.args.low (sym c.if-not-starts.ensures) }
 
 pub returns : goal.returns
 returns c =

@@ -9,10 +9,10 @@ use Rattle.records.proofs.reader.Reader.lists.Goals as goal
 pub loop-init : goal.loop-init
 loop-init c = (refl, listed_none c.args.mark c.args.count (ahead_of c.args.self.now) c.args.self.now.at)
 
-pub returns-in-err-list : goal.returns-in-err-list
-returns-in-err-list c =
-    let f = listed_refused c.loop.invariant.1 c.loop-test.true c.in-err-list.ensures.1 in
-    let p = err_from_is_err_and c.from-residual.result c.from-residual.ensures.1 in
+pub returns-in_err-list : goal.returns-in_err-list
+returns-in_err-list c =
+    let f = listed_refused c.loop.invariant.1 c.loop-test.true c.in_err-list.ensures.1 in
+    let p = err_from_is_err_and c.from_residual.result c.from_residual.ensures.1 in
     rw (p.1, p.2) record { takes = (refl, f); written = tt }
 
 pub loop-preserved : goal.loop-preserved
@@ -20,18 +20,18 @@ loop-preserved c =
     let e = c.in_ok-list.ensures in
     (e.0 ∙ c.loop.invariant.0, listed_more c.loop.invariant.1 c.loop-test.true e.1)
 
-pub slice-bounds-part-count : goal.slice-bounds-part-count
-slice-bounds-part-count c =
+pub slice_bounds-part-count : goal.slice_bounds-part-count
+slice_bounds-part-count c =
     let l = c.loop.invariant.1 in
     omega (arith, place_after c.args.self.now c.loop.ahead (concat encode_list l.xs) c.loop.invariant.0 l.front)
 
-pub slice-bounds-part-start : goal.slice-bounds-part-start
-slice-bounds-part-start c =
+pub slice_bounds-part-start : goal.slice_bounds-part-start
+slice_bounds-part-start c =
     let l = c.loop.invariant.1 in
     omega (arith, place_after c.args.self.now c.loop.ahead (concat encode_list l.xs) c.loop.invariant.0 l.front)
 
-pub slice-bounds-part-end : goal.slice-bounds-part-end
-slice-bounds-part-end c = omega (arith, c.loop.ahead.within, ap length c.loop.invariant.0)
+pub slice_bounds-part-end : goal.slice_bounds-part-end
+slice_bounds-part-end c = omega (arith, c.loop.ahead.within, ap length c.loop.invariant.0)
 
 pub returns : goal.returns
 returns c =
