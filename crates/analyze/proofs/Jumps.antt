@@ -1,11 +1,11 @@
 -- Where a drawn clause lets the search jump back to, and the clause of the decisions: going down a dead trail, a literal that
 -- follows is true, so that one of the decisions is false.
-use Rattle.std.proofs.Common.{◌≡◌, ℕ, ◌+◌, ◌-◌, ◌/◌, ◌<◌, ◌≤◌, Bool, true, false, ◌⊎◌, List, length, get_or, set, sym, refl, ap, ◌∙◌, subst, inl, inr, ⊎_elim, arith, get_or-set_other, get_or-set_same}
+use Rattle.std.proofs.Common.{◌≡◌, ℕ, ◌+◌, ◌-◌, ◌<◌, ◌≤◌, Bool, true, List, length, get_or, set, sym, ap, ◌∙◌, subst, ⊎_elim, arith, get_or-set_other, get_or-set_same}
 use Rattle.std.proofs.lemmas.Bool.{both_ways, cases_eq, cases_Bool}
 use Rattle.chooser.specs.Ways.{lit}
 use Rattle.implied.specs.Implied.{Held, Turned}
 use Rattle.implied.proofs.Literals.{lit_off, lit_on}
-use Rattle.trail.specs.Trails.{Along, Follows, Dead, Sound}
+use Rattle.trail.specs.Trails.{Along, Follows, Sound}
 use Rattle.analyze.specs.Analysis.{Opposed, Place, Jump}
 use Rattle.analyze.proofs.Draws.{held_more, held_last}
 

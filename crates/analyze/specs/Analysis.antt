@@ -1,5 +1,5 @@
 -- What is drawn from a clash, over the ways that X allows.
-use Rattle.std.specs.Prelude.{◌≡◌, ℕ, ◌+◌, ◌/◌, ◌<◌, ◌≤◌, Bool, true, false, ◌⊎◌, List, length, Some, None, Option, slice_index, slice_index_or}
+use Rattle.std.specs.Prelude.{◌≡◌, ℕ, ◌/◌, ◌<◌, ◌≤◌, Bool, true, false, ◌⊎◌, List, length, Some, None, Option, slice_index, slice_index_or}
 use Rattle.chooser.specs.Ways.{lit}
 use Rattle.implied.specs.Implied.{Held, Turned}
 use Rattle.trail.specs.Trails.{Follows}

@@ -1,9 +1,9 @@
 -- A clause of which all literals but one are false shows that one, and a clause that is false shows the trail dead.
-use Rattle.std.proofs.Common.{◌≡◌, ℕ, ◌+◌, ◌<◌, ◌≤◌, Bool, true, false, ◌⊎◌, List, length, get_or, set, sym, refl, subst, ⊎_elim, arith}
+use Rattle.std.proofs.Common.{◌≡◌, ℕ, ◌+◌, ◌<◌, ◌≤◌, Bool, true, false, ◌⊎◌, List, get_or, set, sym, refl, subst, ⊎_elim, arith}
 use Rattle.std.proofs.lemmas.Bool.{both_ways}
 use Rattle.chooser.specs.Ways.{lit}
 use Rattle.implied.specs.Implied.{Known}
-use Rattle.trail.specs.Trails.{Along, Follows, Dead, Refuted, Sound, Grew}
+use Rattle.trail.specs.Trails.{Follows, Dead, Refuted, Sound, Grew}
 use Rattle.trail.specs.declared.kept.Trail.{Trail}
 use Rattle.trail.specs.Steps.{Steady, Pushed}
 use Rattle.trail.proofs.Sounds.{refuted_off, grew_none, grew_push, grew_trans}

@@ -1,5 +1,5 @@
 -- What visits of clauses do to a trail: it stays sound and only grows, and where a clause is false no allowed way is along it.
-use Rattle.std.specs.Prelude.{◌≡◌, ℕ, Bool, true, ◌≢◌}
+use Rattle.std.specs.Prelude.{ℕ, Bool, ◌≢◌}
 use Rattle.trail.specs.Trails.{Dead, Grew}
 use Rattle.trail.specs.Steps.{Steady}
 use Rattle.trail.specs.declared.kept.Trail.{Trail}

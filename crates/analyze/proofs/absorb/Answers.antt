@@ -1,4 +1,4 @@
-use Rattle.std.proofs.Common.{◌≡◌, ℕ, ◌+◌, ◌/◌, ◌<◌, ◌≤◌, length, get_or, sym, ap, ◌∙◌, subst, arith, get_or-set_same}
+use Rattle.std.proofs.Common.{◌≡◌, ◌+◌, ◌/◌, ◌<◌, length, get_or, sym, ap, ◌∙◌, subst, arith, get_or-set_same}
 use Rattle.implied.specs.Implied.{allowed}
 use Rattle.analyze.specs.Analysis.{Grows}
 use Rattle.analyze.proofs.Draws.{part_same, part_off, part_seen, grows_set}

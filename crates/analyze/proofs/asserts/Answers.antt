@@ -1,4 +1,4 @@
-use Rattle.std.proofs.Common.{ℕ, ◌<◌, get_or, arith}
+use Rattle.std.proofs.Common.{ℕ, ◌<◌, get_or}
 use Rattle.implied.specs.Implied.{Turned}
 use Rattle.implied.proofs.Pools.{below_more}
 use Rattle.analyze.proofs.asserts.Goals as goal

@@ -1,4 +1,4 @@
-use Rattle.std.proofs.Common.{◌≡◌, ℕ, ◌+◌, ◌-◌, ◌<◌, ◌≤◌, length, get_or, set, refl, ◌∙◌, arith, length-set}
+use Rattle.std.proofs.Common.{◌+◌, ◌<◌, ◌≤◌, length, ◌∙◌, arith, length-set}
 use Rattle.implied.specs.Implied.{allowed}
 use Rattle.analyze.proofs.Jumps.{decide_skip, decide_last, decide_more, decided}
 use Rattle.analyze.proofs.decisions.Goals as goal

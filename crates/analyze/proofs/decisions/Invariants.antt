@@ -1,4 +1,4 @@
-use Rattle.std.proofs.Common.{◌≡◌, ℕ, ◌≤◌, length}
+use Rattle.std.proofs.Common.{◌≡◌, length}
 use Rattle.implied.specs.Implied.{allowed}
 use Rattle.analyze.proofs.Jumps.{Deciding}
 use Rattle.analyze.proofs.decisions.Given as goal

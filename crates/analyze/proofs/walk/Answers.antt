@@ -1,4 +1,4 @@
-use Rattle.std.proofs.Common.{◌≡◌, ℕ, ◌-◌, ◌<◌, ◌≤◌, length, sym, ◌∙◌, ⊎_elim, arith, length-set}
+use Rattle.std.proofs.Common.{◌<◌, ◌∙◌, ⊎_elim, arith, length-set}
 use Rattle.analyze.proofs.Draws.{walk_skip, walk_keep, walk_take}
 use Rattle.analyze.proofs.walk.Goals as goal
 

@@ -27,8 +27,8 @@ push-requires c =
       );
     }
 
-pub returns-then-is-false : goal.returns-then-is-false
-returns-then-is-false c =
+pub returns-then-is_false : goal.returns-then-is_false
+returns-then-is_false c =
     let t = c.args.t.now in
     let pool = c.args.pool.now in
     let s = get_or c.args.starts.now c.args.c 0 in
@@ -39,7 +39,7 @@ returns-then-is-false c =
       onward_none (allowed c.args.row.now) t c.requires.steady,
       clash_dead (allowed c.args.row.now) t.val t.lits t.marks t.len c.requires.steady pool c.args.used s c.args.other (c.requires.pools c.args.c c.if-at-count.false)
           (joined (λ i. (get_or pool i 0 ≡ c.args.other) ⊎ Refuted t.val (get_or pool i 0)) (s + 1) c.min-mid.result (s + 1 + get_or pool s 0) (c.scan-i-2.ensures.none (omega arith)) (c.scan-i.ensures.none (omega arith)))
-          (c.is-false.ensures c.if-is-false.true),
+          (c.is_false.ensures c.if-is_false.true),
     )
 
 pub returns : goal.returns
