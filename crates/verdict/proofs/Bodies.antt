@@ -1,14 +1,11 @@
 -- Bodies and goals that are read are typed terms with those bytes, and each such term is read.
-use Rattle.std.proofs.Common.{◌≡◌, ℕ, suc, ◌+◌, List, [], ◌∷◌, ◌++◌, map, length, Ok, Err, Result, sym, refl, ap, ◌∙◌, subst}
-use Rattle.syntax.specs.declared.faults.Fault.{Fault}
+use Rattle.std.proofs.Common.{◌≡◌, ℕ, suc, ◌+◌, List, [], ◌∷◌, ◌++◌, map, length, Ok, refl, ap, ◌∙◌, subst}
 use Rattle.syntax.specs.Terms.{Term, encode}
-use Rattle.syntax.specs.Typing.{Sig, Profile, HasType}
-use Rattle.syntax.specs.Problems.{Function, Problem, Each, concat, encode_list, encode_part, encode_function, encode_goal, LawfulGoal}
-use Rattle.records.specs.Raw.{Raw, RawFunction, write_function, write_goal}
-use Rattle.records.specs.Reading.{and_then}
+use Rattle.syntax.specs.Typing.{Sig, HasType}
+use Rattle.syntax.specs.Problems.{Function, Each, concat, encode_list, encode_part, encode_function, encode_goal, LawfulGoal}
+use Rattle.records.specs.Raw.{RawFunction, write_function, write_goal}
 use Rattle.tables.specs.Tabled.{body_at, term_at}
 use Rattle.reading.specs.Reading.{reading}
-use Rattle.reading.specs.Verdicts.{ReadsTerms}
 use Rattle.reading.proofs.Verdicts.{reading_is_exact_lem}
 use Rattle.verdict.specs.Verdict.{term_in, bodies_in, goals_in}
 use Rattle.verdict.proofs.Results.{was_ok, then_ok, term_was}

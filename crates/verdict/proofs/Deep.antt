@@ -1,8 +1,8 @@
 -- The first type without a value no deeper than 8, found by the computed least depths, in the sense of values.
 use Rattle.std.proofs.Common.{◌≡◌, ℕ, zero, suc, ◌+◌, ◌<◌, ◌≤◌, Bool, true, false, cond, leb, List, [], ◌∷◌, length, get_or, Some, None, Option, sym, refl, ap, ◌∙◌, subst, add-zero, arith, le-leb, leb-true}
 use borrow.Author.Tests.{lt-leb}
-use Rattle.syntax.specs.Typing.{Sig, Declared}
-use Rattle.syntax.specs.Values.{Value, build, v[], OfType, of_type, of[], depth, Shallow, IsLeast}
+use Rattle.syntax.specs.Typing.{Sig}
+use Rattle.syntax.specs.Values.{Shallow}
 use Rattle.syntax.specs.Least.{least_of}
 use Rattle.syntax.specs.Problems.{encode_type}
 use Rattle.tables.specs.Tabled.{places_of, mark_at}

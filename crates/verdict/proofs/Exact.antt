@@ -4,22 +4,21 @@ use Rattle.std.proofs.Common.{◌≡◌, ℕ, zero, suc, ◌+◌, ◌<◌, ◌�
 use Rattle.syntax.specs.declared.faults.Fault.{Fault}
 use Rattle.syntax.specs.declared.faults.Reason.{Reason}
 use Rattle.syntax.specs.declared.faults.Reason.TheVariants.{Undeclared, NoValue}
-use Rattle.syntax.specs.Faults.{fault}
 use Rattle.syntax.specs.Terms.{Term, encode}
-use Rattle.syntax.specs.Typing.{Sig, Profile, Declared, HasType}
+use Rattle.syntax.specs.Typing.{Sig, Profile, Declared}
 use Rattle.syntax.specs.Values.{build, v[], of_type, of[], Shallow}
 use Rattle.syntax.specs.Least.{least_of}
-use Rattle.syntax.specs.Problems.{Function, Problem, Each, bool, sig_of, concat, encode_list, encode_type, encode_function, encode_unknown, encode_goal, encode_end, encode_problem, FewTypes, LawfulType, LawfulFunction, LawfulGoal, Lawful}
+use Rattle.syntax.specs.Problems.{Function, Problem, Each, bool, sig_of, concat, encode_type, encode_function, encode_unknown, encode_goal, encode_end, encode_problem, FewTypes, LawfulType, LawfulFunction, LawfulGoal, Lawful}
 use Rattle.records.specs.Raw.{Raw, RawFunction, write, write_function, write_goal, Few, Within}
-use Rattle.records.specs.Reading.{and_then, records}
-use Rattle.tables.specs.Exact.{Bytes, ReadAs, ReadingExact}
+use Rattle.records.specs.Reading.{records}
+use Rattle.tables.specs.Exact.{Bytes}
 use Rattle.tables.specs.Tabled.{declared_by, functions_start, goals_start}
 use Rattle.tables.proofs.Exactness.{reading_exact, reads_back}
 use Rattle.declarations.specs.Numbers.{undeclared}
-use Rattle.declarations.specs.Laws.{AllDeclared, NoneUndeclared}
+use Rattle.declarations.specs.Laws.{AllDeclared}
 use Rattle.declarations.proofs.Declared.{undeclared_is_exact_lem}
-use Rattle.verdict.specs.Verdict.{deep, unless, types_in, bodies_in, goals_in, terms_in, verdict, checked}
-use Rattle.verdict.specs.Exact.{Encodes, OneProblem, Says, DecodedAs, VerdictIsExact}
+use Rattle.verdict.specs.Verdict.{deep, unless, types_in, bodies_in, goals_in, terms_in, verdict}
+use Rattle.verdict.specs.Exact.{Encodes, OneProblem, VerdictIsExact}
 use Rattle.verdict.proofs.Results.{never_ok, was_ok, then_ok}
 use Rattle.verdict.proofs.Bodies.{TypedBody, AreBodies, bodies_sound, raw_function, bodies_complete, AreGoals, goals_sound, goals_complete}
 use Rattle.verdict.proofs.Deep.{shallow_low, low_shallow, none_deep, deep_none}

@@ -14,12 +14,12 @@ use Rattle.syntax.specs.Typing.{Sig, Profile}
 use Rattle.syntax.specs.Problems.{Function, Problem, Each, bool, concat, encode_type, encode_unknown, encode_end}
 use Rattle.records.specs.Raw.{Raw, RawFunction, write, write_function, write_goal, Few, Within}
 use Rattle.records.specs.Reading.{and_then, records}
-use Rattle.tables.specs.Tabled.{places_of, mark_at, body_at, term_at, functions_start, unknowns_start, goals_start, part_in, Inside, function_in, declared_by, Declares, Locates, Tabled}
+use Rattle.tables.specs.Tabled.{places_of, mark_at, body_at, term_at, functions_start, unknowns_start, goals_start, part_in, function_in, declared_by, Declares, Locates}
 use Rattle.reading.specs.Reading.{reading}
 use Rattle.declarations.specs.Numbers.{Low}
 use Rattle.depths.specs.Least.{Leasts}
 use Rattle.verdict.specs.Verdict.{term_in, types_in, bodies_in, goals_in, terms_in, verdict}
-use Rattle.verdict.specs.ByTables.{fault_of, bodies_by, goals_by, terms_by, FitFunctions, FitGoals}
+use Rattle.verdict.specs.ByTables.{fault_of, bodies_by, goals_by, terms_by, FitFunctions}
 use Rattle.verdict.proofs.Results.{never_ok, then_ok}
 
 apart : {A B : Type 0} {x : B} {xs : List B} → ◌≡◌ {A = List B} [] (x ∷ xs) → A

@@ -1,22 +1,21 @@
 -- What is found in the tables is what the definitions find in the records.
-use Rattle.std.proofs.Common.{◌≡◌, ℕ, zero, suc, ◌+◌, ◌<◌, ◌≤◌, List, [], ◌∷◌, ◌++◌, map, length, get_or, Some, None, Ok, Err, Option, Result, sym, refl, ap, ◌∙◌, subst, arith}
+use Rattle.std.proofs.Common.{◌≡◌, ℕ, zero, suc, ◌+◌, ◌<◌, ◌≤◌, ◌∷◌, length, get_or, Some, None, Ok, Err, sym, ap, ◌∙◌, subst, arith}
 use Rattle.std.proofs.lemmas.List.{get_or-map, length-map}
-use Rattle.syntax.specs.declared.faults.Fault.{Fault}
 use Rattle.syntax.specs.declared.faults.Reason.TheVariants.{Undeclared, NoValue}
 use Rattle.syntax.specs.Faults.{fault}
 use Rattle.syntax.specs.declared.tables.Datatype.{Datatype}
 use Rattle.syntax.specs.declared.tables.Signature.{Signature}
-use Rattle.syntax.specs.Tables.{cases_in, profile_in, declared_in}
-use Rattle.syntax.specs.Typing.{Sig, Profile, Declared}
+use Rattle.syntax.specs.Tables.{cases_in, declared_in}
+use Rattle.syntax.specs.Typing.{Declared}
 use Rattle.syntax.specs.Values.{build, v[], of_type, of[], Shallow}
 use Rattle.syntax.specs.Least.{least_of}
 use Rattle.syntax.specs.Problems.{bool, encode_type}
 use Rattle.records.specs.Raw.{Raw}
 use Rattle.tables.specs.Tabled.{places_of, mark_at, declared_by, Declares}
-use Rattle.declarations.specs.Numbers.{first_from, numbers_in, of_tables, undeclared}
+use Rattle.declarations.specs.Numbers.{first_from, of_tables, undeclared}
 use Rattle.declarations.proofs.Tables.{tables_agree}
 use Rattle.depths.specs.Laws.{Inhabited}
-use Rattle.depths.specs.Least.{FirstWithout, Leasts}
+use Rattle.depths.specs.Least.{FirstWithout}
 use Rattle.verdict.specs.Verdict.{deep, unless, types_in}
 use Rattle.verdict.proofs.Examining.{declared_same}
 use Rattle.verdict.proofs.Deep.{shallow_low, low_shallow, deep_none, deep_first}

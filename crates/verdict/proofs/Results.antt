@@ -1,5 +1,5 @@
 -- What came before where a chain of readings came to its end. A chain that ends well had each of its links end well.
-use Rattle.std.proofs.Common.{◌≡◌, ℕ, Ok, Err, Result, sym, refl, ap, ◌∙◌, arith}
+use Rattle.std.proofs.Common.{◌≡◌, ℕ, Ok, Err, Result, refl, ap, arith}
 use Rattle.syntax.specs.declared.faults.Fault.{Fault}
 use Rattle.syntax.specs.Terms.{Term}
 use Rattle.records.specs.Reading.{and_then}

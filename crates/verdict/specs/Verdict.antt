@@ -1,5 +1,5 @@
 -- The verdict on bytes: the problem that they are, or the first fault with its number, place and layer. Assumes nothing.
-use Rattle.std.specs.Prelude.{ℕ, ◌+◌, Bool, true, false, cond, List, [], ◌∷◌, map, length, Some, None, Ok, Err, Option, Result, nat_le}
+use Rattle.std.specs.Prelude.{ℕ, ◌+◌, cond, List, [], ◌∷◌, length, Some, None, Ok, Err, Option, Result, nat_le}
 use Rattle.syntax.specs.declared.faults.Fault.{Fault}
 use Rattle.syntax.specs.declared.faults.Reason.{Reason}
 use Rattle.syntax.specs.declared.faults.Reason.TheVariants.{Undeclared, NoValue, BadTerm}
@@ -7,7 +7,7 @@ use Rattle.syntax.specs.Faults.{fault}
 use Rattle.syntax.specs.Terms.{Term}
 use Rattle.syntax.specs.Typing.{Sig}
 use Rattle.syntax.specs.Least.{least_of}
-use Rattle.syntax.specs.Problems.{Function, Problem, bool, concat, encode_type, encode_unknown, empty_problem}
+use Rattle.syntax.specs.Problems.{Function, Problem, encode_type, empty_problem}
 use Rattle.records.specs.Raw.{Raw, RawFunction, write_function, write_goal}
 use Rattle.records.specs.Reading.{and_then, records}
 use Rattle.tables.specs.Tabled.{declared_by, functions_start, goals_start, body_at, term_at}

@@ -1,4 +1,4 @@
-use Rattle.std.proofs.Common.{◌≡◌, ◌≤◌, length, refl, ap, ◌∙◌, arith}
+use Rattle.std.proofs.Common.{◌≤◌, length, refl, ap, ◌∙◌, arith}
 use Rattle.std.proofs.lemmas.Result.{err_from_is_err_and}
 use Rattle.tables.specs.Tabled.{declared_by}
 use Rattle.verdict.proofs.Examining.{low, fit_functions, declares_part, locates_part, same_fronts, by_types, by_terms, terms_refused, terms_accepted, declared_same, leasts_written}
