@@ -6,7 +6,8 @@
 # since Debian packages its program alone. Without it the learning chooser is held against the plain one.
 set -eu
 cd "$(dirname "$0")/.."
-[ -x target/bin/chooser_bench ] || rt check chooser_bench >/dev/null
+bench=$PWD/crates/chooser_bench/out/chooser_bench
+[ -x "$bench" ] || (cd crates/chooser_bench && rt run >/dev/null)
 work=$(mktemp -d)
 trap 'rm -r "$work"' EXIT
 python3 bench/choosing.py "$work/scripts"
@@ -29,7 +30,7 @@ beside() {
   local family=$1 other=$2
   shift 2
   local ours theirs
-  ours=$(seconds "$work/ours" target/bin/chooser_bench learning "$work"/scripts/"$family"*.txt)
+  ours=$(seconds "$work/ours" "$bench" learning "$work"/scripts/"$family"*.txt)
   theirs=$(seconds "$work/theirs" "$@" "$work"/scripts/"$family"*.txt)
   cmp -s "$work/ours" "$work/theirs" || { echo "$family: the answers differ from those of $other"; exit 1; }
   awk -v f="$family" -v o="$other" -v a="$ours" -v b="$theirs" \
@@ -42,5 +43,5 @@ if [ -n "${MINISAT_SOURCE:-}" ]; then
   done
 fi
 for family in r50 php5 groups; do
-  beside $family plain target/bin/chooser_bench plain
+  beside $family plain "$bench" plain
 done
