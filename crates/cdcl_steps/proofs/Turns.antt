@@ -1,17 +1,16 @@
 -- Each turn of the search leaves less: a decision and a jump raise the trail's weight, and a restart spends a unit of fuel.
 use mathlib.Core.Path.{◌≡◌, refl, sym, ap, subst, ◌∙◌}
-use mathlib.Core.Logic.{◌⊎◌, inl, inr}
 use mathlib.Core.List.{List}
 use mathlib.Core.Bool.{Bool, true, false}
-use Prim.Native.Nat.{ℕ, ◌+◌, ◌-◌, ◌*◌, ◌^◌, ◌/◌, ◌≤◌, ◌<◌}
+use Prim.Native.Nat.{ℕ, ◌+◌, ◌-◌, ◌*◌, ◌≤◌, ◌<◌}
 use native.Mathlib.Nat.{add-mul, one-mul}
 use native.Mathlib.Omega.{arith}
-use lib.ListN.{length, take, set, get_or}
+use lib.ListN.{take, set, get_or}
 use Rattle.rows.proofs.Lits.{false_from}
 use Rattle.weight.specs.Weight.{weight}
-use Rattle.weight.proofs.Marks.{below_top, push_rises, push_good, jump_rises, jump_good}
+use Rattle.weight.proofs.Marks.{below_top, push_rises, jump_rises}
 use Rattle.implied.specs.Implied.{allowed, Held, Turned}
-use Rattle.trail.specs.Trails.{Sound, Grew}
+use Rattle.trail.specs.Trails.{Grew}
 use Rattle.trail.specs.Steps.{Steady, Placed, Pushed}
 use Rattle.trail.specs.declared.kept.Trail.{Trail}
 use Rattle.activity.specs.Cuts.{Free, Kept}

@@ -1,5 +1,5 @@
 -- What is decided on a trail: assumptions, and behind all of them other literals.
-use Rattle.std.specs.Prelude.{◌≡◌, ℕ, ◌+◌, ◌/◌, ◌<◌, ◌≤◌, Bool, true, false, ◌&&◌, ◌⊎◌, List, length, slice_index}
+use Rattle.std.specs.Prelude.{◌≡◌, ℕ, ◌<◌, ◌≤◌, Bool, false, ◌&&◌, ◌⊎◌, List, length, slice_index}
 use Rattle.chooser.specs.Ways.{lit, every}
 use Rattle.implied.specs.Implied.{allowed}
 use Rattle.trail.specs.Trails.{Dead}

@@ -1,15 +1,15 @@
 -- A literal that the written values make false is false on the trail or open; a clause of such literals, none of them open,
 -- shows the trail dead.
-use Rattle.std.proofs.Common.{◌≡◌, ℕ, zero, suc, ◌+◌, ◌-◌, ◌*◌, ◌/◌, ◌%◌, ◌<◌, ◌≤◌, Bool, true, false, cond, not, ◌&&◌, eqb, ◌⊎◌, List, [], ◌∷◌, length, get_or, take, drop, sym, refl, ap, ◌∙◌, subst, inl, inr, ⊎_elim, arith}
-use Rattle.std.proofs.lemmas.Bool.{both_ways, cases_eq, cases_lt, cases_Bool, cond-true, cond-false, eq-eqb, ne_eqb, eqb-true, eqb-false, not-false, not-true, and_parts, or_cases, or_parts}
+use Rattle.std.proofs.Common.{◌≡◌, ℕ, zero, suc, ◌+◌, ◌*◌, ◌/◌, ◌%◌, ◌<◌, ◌≤◌, Bool, true, false, not, ◌&&◌, eqb, List, [], ◌∷◌, length, get_or, take, drop, sym, ap, ◌∙◌, subst, ⊎_elim, arith}
+use Rattle.std.proofs.lemmas.Bool.{both_ways, cases_eq, cases_lt, cases_Bool, cond-true, cond-false, eq-eqb, ne_eqb, eqb-true, eqb-false, not-false, and_parts, or_parts}
 use Rattle.std.proofs.lemmas.List.{get_or-take, get_or-drop, length-take-le, length-drop, drop_more, drop-drop}
-use Rattle.chooser.specs.Ways.{lit, some, every, written, allotted, bits}
+use Rattle.chooser.specs.Ways.{lit, some, written}
 use Rattle.rows.specs.Rows.{holds, inside}
 use Rattle.rows.proofs.Clauses.{Whole, holds_clause, inside_clause}
-use Rattle.rows.proofs.Lits.{bits_from, allotted_at, every_from}
+use Rattle.rows.proofs.Lits.{allotted_at}
 use Rattle.implied.specs.Implied.{allowed, Known}
 use Rattle.implied.proofs.Literals.{held_some}
-use Rattle.trail.specs.Trails.{Along, Dead, Refuted, Sound}
+use Rattle.trail.specs.Trails.{Dead, Refuted, Sound}
 use Rattle.trail.proofs.Sounds.{refuted_off}
 use Rattle.outcome.specs.Outcome.{Copied, Failing}
 

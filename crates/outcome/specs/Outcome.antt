@@ -1,5 +1,5 @@
 -- What values come to that are held against the clauses of a row and the assumptions.
-use Rattle.std.specs.Prelude.{◌≡◌, ℕ, ◌+◌, ◌*◌, ◌/◌, ◌<◌, ◌≤◌, Bool, true, false, cond, ◌&&◌, List, length, ◌==◌, slice_index}
+use Rattle.std.specs.Prelude.{◌≡◌, ℕ, ◌+◌, ◌*◌, ◌<◌, ◌≤◌, Bool, true, false, cond, ◌&&◌, List, length, ◌==◌, slice_index}
 use Rattle.chooser.specs.Ways.{lit, every, written, bits}
 use Rattle.rows.specs.Rows.{holds}
 use Rattle.implied.specs.Implied.{allowed, Known}

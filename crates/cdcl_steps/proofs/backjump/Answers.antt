@@ -2,16 +2,16 @@ use mathlib.Core.Path.{◌≡◌, refl, sym, ap, subst, ◌∙◌}
 use mathlib.Core.Logic.{inl}
 use mathlib.Core.Bool.{Bool, true}
 use mathlib.Core.List.{List}
-use Prim.Native.Nat.{ℕ, ◌+◌, ◌<◌, ◌≤◌}
+use Prim.Native.Nat.{ℕ, ◌+◌}
 use native.Mathlib.Omega.{arith}
-use lib.ListN.{length, get_or, set}
+use lib.ListN.{get_or, set}
 use Rattle.implied.specs.Implied.{allowed}
 use Rattle.trail.specs.Steps.{Placed, Pushed}
 use Rattle.trail.specs.declared.kept.Trail.{Trail}
 use Rattle.activity.specs.Cuts.{Kept}
-use Rattle.analyze.specs.Analysis.{Place, Jump}
+use Rattle.analyze.specs.Analysis.{Place}
 use Rattle.decisions.proofs.Orders.{ordered_placed}
-use Rattle.cdcl_steps.specs.Search.{Jumped, Jumps}
+use Rattle.cdcl_steps.specs.Search.{Jumps}
 use Rattle.cdcl_steps.proofs.Turns.{turned_free, placed_from}
 use Rattle.cdcl_steps.proofs.backjump.Goals as goal
 
@@ -36,15 +36,15 @@ module _ (row buf : List ℕ) (t u v : Trail) (k : ℕ) (r : Bool) (at : Place (
 pub returns : goal.returns
 returns c =
     let t = c.args.t.now in
-    let u = c.cut-back.new.t in
+    let u = c.cut_back.new.t in
     let v = c.push.new.t in
     let buf = c.analyze-cut.new.buf in
     let row = c.args.row.now in
     let some = c.if-cut-eq0.false in
     let at = c.analyze-cut.ensures.place (omega arith) in
     let k = c.analyze-cut.result.k in
-    let after = c.cut-back.ensures in
-    let plan = c.cut-back.new.plan in
+    let after = c.cut_back.ensures in
+    let plan = c.cut_back.new.plan in
     record {
       stocked = c.learn-why.ensures;
       steady = c.push.ensures.steady;

@@ -1,4 +1,4 @@
-use Rattle.std.proofs.Common.{◌/◌, ◌<◌, length, get_or, arith}
+use Rattle.std.proofs.Common.{get_or}
 use Rattle.implied.specs.Implied.{allowed}
 use Rattle.trail.proofs.Sounds.{held_by}
 use Rattle.decisions.proofs.Orders.{ordered_more, barred}

@@ -1,4 +1,4 @@
-use Rattle.std.proofs.Common.{◌≡◌, ◌*◌, ◌<◌, ◌≤◌, length, get_or, arith}
+use Rattle.std.proofs.Common.{◌*◌, ◌<◌, length, get_or, arith}
 use Rattle.rows.proofs.Lits.{allotted_at}
 use Rattle.decisions.proofs.choose.Goals as goal
 

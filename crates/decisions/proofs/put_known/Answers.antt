@@ -1,8 +1,7 @@
-use Rattle.std.proofs.Common.{◌≡◌, ℕ, ◌+◌, ◌<◌, Bool, true, false, length, get_or, set, sym, refl, ap, ◌∙◌, subst, inr, ⊎_elim, arith, get_or-set_other, get_or-set_same}
+use Rattle.std.proofs.Common.{◌≡◌, ℕ, ◌<◌, Bool, true, false, length, get_or, set, sym, refl, ap, ◌∙◌, subst, inr, ⊎_elim, arith, get_or-set_other, get_or-set_same}
 use Rattle.std.proofs.lemmas.Bool.{cases_eq}
-use Rattle.implied.specs.Implied.{allowed}
 use Rattle.implied.proofs.Literals.{lit_on, turned_back}
-use Rattle.trail.specs.Steps.{Steady, Pushed}
+use Rattle.trail.specs.Steps.{Pushed}
 use Rattle.trail.specs.declared.kept.Trail.{Trail}
 use Rattle.decisions.proofs.put_known.Goals as goal
 

@@ -1,4 +1,4 @@
-use Rattle.std.proofs.Common.{◌≡◌, ℕ, ◌*◌, ◌/◌, ◌<◌, ◌≤◌, length, get_or, sym, ◌∙◌, subst, arith}
+use Rattle.std.proofs.Common.{◌*◌, ◌/◌, ◌<◌, length, get_or, arith}
 use Rattle.rows.proofs.Lits.{bits_from, allotted_at}
 use Rattle.implied.specs.Implied.{allowed}
 use Rattle.outcome.proofs.Checks.{copied_small, refuted_from, both_dead}

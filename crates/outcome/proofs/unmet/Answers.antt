@@ -1,4 +1,4 @@
-use Rattle.std.proofs.Common.{◌≡◌, ℕ, ◌+◌, ◌-◌, ◌≤◌, Bool, true, false, ◌&&◌, length, get_or, take, drop, sym, refl, ap, ◌∙◌, subst, arith}
+use Rattle.std.proofs.Common.{◌≡◌, ℕ, ◌+◌, ◌-◌, true, length, get_or, take, drop, sym, refl, ap, ◌∙◌, arith}
 use Rattle.std.proofs.lemmas.Bool.{and_parts, and_from}
 use Rattle.std.proofs.lemmas.List.{at_drop_all}
 use Rattle.chooser.specs.Ways.{lit, some, written}
@@ -6,8 +6,8 @@ use Rattle.rows.specs.Rows.{holds}
 use Rattle.outcome.proofs.Checks.{clause_fits, behind_inside, clause_holds, clause_failing}
 use Rattle.outcome.proofs.unmet.Goals as goal
 
-pub slice-bounds-meets-end : goal.slice-bounds-meets-end
-slice-bounds-meets-end c = clause_fits c.args.row.now (length c.args.out.now) c.loop-s.s c.loop-s-test.true c.loop-s.invariant.1
+pub slice_bounds-meets-end : goal.slice_bounds-meets-end
+slice_bounds-meets-end c = clause_fits c.args.row.now (length c.args.out.now) c.loop-s.s c.loop-s-test.true c.loop-s.invariant.1
 
 -- the part of the row that is looked at is the clause
 width : (s len : ℕ) → s + 1 + len - (s + 1) ≡ len

@@ -1,4 +1,4 @@
-use Rattle.std.proofs.Common.{◌≡◌, ℕ, ◌<◌}
+use Rattle.std.proofs.Common.{ℕ, ◌<◌}
 use Rattle.outcome.specs.Outcome.{Copied}
 use Rattle.outcome.proofs.write.Given as goal
 
