@@ -10,7 +10,7 @@ use Rattle.finder.specs.Ways.{Way}
 use Rattle.finder.specs.Clauses.{all_met}
 use Rattle.finder.specs.Findings.{out_of_steps, false_goal}
 use Rattle.histories.specs.States.{Session, State, begun, start}
-use Rattle.histories.specs.Rounds.{model, none_within, never, Answer, one_recorded, Known, with_conflict, finds, conflict_in, Runs}
+use Rattle.histories.specs.Rounds.{none_within, never, Answer, one_recorded, Known, with_conflict, finds, conflict_in, Runs}
 use Rattle.histories.specs.Calls.{forcing, Reply, answered, in_hand, after_give_back, search_refused, search_shallow, search_made}
 use Rattle.examples.specs.Sessions.{Fresh, Search, reply, forced, pairs, PairFound, contradiction, NeverTrue, looping, StepsSpent}
 use Rattle.examples.proofs.Turns.{mk, At, at_same, OneWay, record_round, never_round, model_round, out_round}

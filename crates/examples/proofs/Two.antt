@@ -11,7 +11,7 @@ use Rattle.finder.specs.Clauses.{all_met, opening_clauses}
 use Rattle.finder.specs.Findings.{waiting_goal, false_goal, all_true}
 use Rattle.histories.specs.States.{AtHand, Session, State, begun}
 use Rattle.histories.specs.Rounds.{model, none_within, Answer, closes, one_opened, one_recorded, Known, with_opened, with_conflict, finds, conflict_in, Runs}
-use Rattle.histories.specs.Calls.{forcing, in_hand, Reply, answered, known}
+use Rattle.histories.specs.Calls.{forcing, in_hand, Reply, answered}
 use Rattle.examples.specs.Sessions.{Fresh, Search, reply, forced, TwoFound}
 use Rattle.examples.proofs.Turns.{mk, At, at_same, OneWay, open_round, record_round, none_round, model_round}
 use Rattle.examples.proofs.Made.{made, F₀, fresh_at}
