@@ -1,28 +1,26 @@
 -- What an examination leaves in its tables is what the problem says: the records and the problem have one layout. Assumes nothing.
-use Rattle.std.proofs.Common.{◌≡◌, ℕ, zero, suc, ◌+◌, ◌<◌, ◌≤◌, true, List, [], ◌∷◌, ◌++◌, map, length, get_or, take, is_ok, Ok, Err, vec_items, Result, sym, refl, ap, ◌∙◌, subst, arith}
-use Rattle.std.proofs.lemmas.List.{get_or_past}
-use Rattle.syntax.specs.declared.faults.Fault.{Fault}
+use Rattle.std.proofs.Common.{◌≡◌, ℕ, zero, suc, ◌+◌, ◌≤◌, List, [], ◌∷◌, map, length, get_or, take, is_ok, Ok, vec_items, sym, refl, ap, ◌∙◌, subst, arith}
 use Rattle.syntax.specs.declared.tables.Datatype.{Datatype}
 use Rattle.syntax.specs.declared.tables.Callable.{Callable}
 use Rattle.syntax.specs.declared.tables.Span.{Span}
 use Rattle.syntax.specs.declared.tables.Signature.{Signature}
-use Rattle.syntax.specs.Tables.{listed, cases_in, profile_in, declared_in}
-use Rattle.syntax.specs.Terms.{Term, encode}
+use Rattle.syntax.specs.Tables.{cases_in, profile_in, declared_in}
+use Rattle.syntax.specs.Terms.{Term}
 use Rattle.syntax.specs.Typing.{Sig, Profile, cases_of}
-use Rattle.syntax.specs.Problems.{Function, Problem, Each, bool, sig_of, concat, encode_type, encode_function, encode_unknown, encode_goal, encode_problem}
-use Rattle.records.specs.Raw.{Raw, RawFunction, write, write_function, write_goal, Within, Few}
+use Rattle.syntax.specs.Problems.{Function, Problem, Each, bool, concat, encode_function, encode_unknown, encode_goal, encode_problem}
+use Rattle.records.specs.Raw.{Raw, RawFunction, write_function, write_goal, Few}
 use Rattle.tables.specs.declared.filling.Counts.{Counts}
-use Rattle.tables.specs.Tabled.{places_of, body_at, term_at, functions_start, unknowns_start, goals_start, declared_by}
+use Rattle.tables.specs.Tabled.{places_of, body_at, term_at, functions_start, goals_start, declared_by}
 use Rattle.reading.specs.Reading.{reading}
 use Rattle.reading.proofs.Verdicts.{reading_is_exact_lem}
 use Rattle.depths.specs.Least.{Leasts}
 use Rattle.verdict.specs.Verdict.{verdict, problem_in, term_in, bodies_in, goals_in, terms_in}
 use Rattle.verdict.specs.Examined.{Accepted}
 use Rattle.verdict.proofs.Results.{was_ok, term_was}
-use Rattle.verdict.proofs.Bodies.{with_body, bodies_sound, goals_sound}
-use Rattle.kept.specs.Layout.{read_from, sig_from, functions_from, unknowns_from, goals_from, body_from, goal_from, body_places, goal_places}
+use Rattle.verdict.proofs.Bodies.{with_body, bodies_sound}
+use Rattle.kept.specs.Layout.{read_from, sig_from, body_from, goal_from, body_places, goal_places}
 use Rattle.kept.specs.Filled.{Filled, Holds, Fronts}
-use Rattle.kept.specs.declared.tables.Tables.{Tables}
+use Rattle.kept.specs.declared.record_tables.Tables.{Tables}
 use Rattle.kept.proofs.Records.{same_bytes, same_profiles}
 
 -- the bodies of functions that were read stand where their records say

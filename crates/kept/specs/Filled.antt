@@ -12,7 +12,7 @@ use Rattle.depths.specs.Least.{Leasts}
 use Rattle.depths.specs.Needs.{need_by, Filled as By-rows}
 use Rattle.verdict.specs.Verdict.{verdict}
 use Rattle.kept.specs.Layout.{read_from, sig_from, body_places, goal_places}
-use Rattle.kept.specs.declared.tables.Tables.{Tables}
+use Rattle.kept.specs.declared.record_tables.Tables.{Tables}
 
 pub record Filled (bs : List ℕ) (types : List Datatype) (functions : List Callable) (unknowns : List ℕ) (goals : List Span) (least : List ℕ) : Type 0 where
   pub short : length bs ≤ 16384

@@ -1,5 +1,5 @@
 -- The problem that bytes are, and where its terms stand in them. Assumes nothing.
-use Rattle.std.specs.Prelude.{ℕ, ◌+◌, List, [], length}
+use Rattle.std.specs.Prelude.{ℕ, ◌+◌, List, length}
 use Rattle.syntax.specs.Terms.{Term}
 use Rattle.syntax.specs.Typing.{Sig}
 use Rattle.syntax.specs.Problems.{Function, Problem, sig_of, concat, encode_type, encode_function, encode_unknown, encode_goal}

@@ -5,7 +5,7 @@ ghost use Rattle.ends.specs.Ends.{ends_of};
 ghost use Rattle.verdict.specs.Verdict.{verdict};
 ghost use Rattle.kept.specs.Filled.{NeedsHeld, Holds, Counted, Fronts};
 
-use crate::tables::Tables;
+use crate::record_tables::Tables;
 use depths::needs::fill_needs;
 use ends::ends::fill_ends;
 use std::alloc::{AllocError, Global};

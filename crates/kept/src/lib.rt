@@ -2,4 +2,4 @@
 #![tactic(auto)]
 
 pub mod fill;
-pub mod tables;
+pub mod record_tables;

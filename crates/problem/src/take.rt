@@ -8,7 +8,7 @@ ghost use Rattle.problem.specs.Taken.{Taken};
 
 use crate::problem::Problem;
 use kept::fill::{ends_table, examined, needs_table};
-use kept::tables::Tables;
+use kept::record_tables::Tables;
 use std::alloc::{AllocError, Global};
 use syntax::tables::Signature;
 
