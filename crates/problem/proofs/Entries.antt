@@ -1,14 +1,12 @@
 -- Reading the tables through what they stand for. Assumes nothing.
-use Rattle.std.proofs.Common.{◌≡◌, ℕ, zero, suc, ◌-◌, ◌<◌, ◌≤◌, cond, List, [], ◌∷◌, map, length, get_or, sym, refl, ap, ◌∙◌, subst, ⊎_elim, arith, le-ltb, lt-ltb}
+use Rattle.std.proofs.Common.{◌≡◌, ℕ, zero, suc, ◌<◌, ◌≤◌, cond, List, [], ◌∷◌, map, length, get_or, sym, refl, ap, ◌∙◌, subst, ⊎_elim, arith, le-ltb, lt-ltb}
 use Rattle.std.proofs.lemmas.List.{length-map, get_or-map, get_or_past, get_or_read}
 use Rattle.std.proofs.lemmas.Bool.{cases_lt}
 use Rattle.syntax.specs.declared.tables.Datatype.{Datatype}
-use Rattle.syntax.specs.declared.tables.Callable.{Callable}
-use Rattle.syntax.specs.Tables.{listed, cases_in, profile_in}
-use Rattle.syntax.specs.Typing.{Sig, Profile, cases_of}
-use Rattle.syntax.specs.Values.{Shallow, OfType, of_type, Value}
+use Rattle.syntax.specs.Tables.{listed, cases_in}
+use Rattle.syntax.specs.Typing.{Sig}
+use Rattle.syntax.specs.Values.{OfType, of_type, Value}
 use Rattle.syntax.specs.Least.{least_of}
-use Rattle.syntax.specs.Problems.{Function}
 use Rattle.reading.proofs.Tables.{no_list, no_datatype, constructor_at}
 use Rattle.depths.proofs.Entries.{cases_at}
 use Rattle.depths.proofs.Leasts.{least_is_least}

@@ -1,12 +1,10 @@
 -- The bytes of a problem encode the problem that they mean, and it is lawful: from the verdict, by way of the records. Assumes nothing.
-use Rattle.std.proofs.Common.{◌≡◌, ℕ, true, false, List, [], ◌∷◌, ◌++◌, length, is_ok, Ok, Err, Result, sym, refl, ap, ◌∙◌, subst}
+use Rattle.std.proofs.Common.{◌≡◌, ℕ, true, List, is_ok, Ok, Err, Result, sym, refl, ◌∙◌}
 use Rattle.std.proofs.lemmas.Bool.{false≢true}
 use Rattle.syntax.specs.declared.faults.Fault.{Fault}
-use Rattle.syntax.specs.Problems.{Problem, concat, encode_type, encode_unknown, encode_goal, encode_end, encode_problem}
-use Rattle.records.specs.Raw.{Raw, write, write_function}
-use Rattle.tables.specs.Tabled.{declared_by, functions_start, goals_start}
+use Rattle.syntax.specs.Problems.{Problem, encode_problem}
 use Rattle.tables.proofs.Exactness.{within_limits}
-use Rattle.verdict.specs.Verdict.{verdict, problem_in, bodies_in, goals_in, terms_in}
+use Rattle.verdict.specs.Verdict.{verdict, problem_in}
 use Rattle.verdict.specs.Exact.{Encodes}
 use Rattle.verdict.proofs.Exact.{came, encoded}
 use Rattle.kept.specs.Layout.{read_from}

@@ -1,9 +1,9 @@
 -- Where the terms of a problem stand in its bytes: each behind the head of its record, and the records one after another. Assumes nothing.
-use Rattle.std.proofs.Common.{◌≡◌, ℕ, zero, suc, ◌+◌, ◌/◌, ◌%◌, ◌<◌, ◌≤◌, List, [], ◌∷◌, ◌++◌, map, length, get_or, drop, sym, refl, ap, ◌∙◌, subst, append_assoc, arith}
+use Rattle.std.proofs.Common.{◌≡◌, ℕ, zero, suc, ◌+◌, ◌/◌, ◌%◌, ◌<◌, List, [], ◌∷◌, ◌++◌, map, length, get_or, drop, sym, refl, ap, ◌∙◌, subst, append_assoc, arith}
 use Rattle.std.proofs.lemmas.List.{drop-drop, drop_at, length-append}
 use Rattle.syntax.specs.Terms.{Term, encode}
 use Rattle.syntax.specs.Typing.{Profile, no_profile, want, params_of, result_of, HasType}
-use Rattle.syntax.specs.Problems.{Function, Problem, Lawful, LawfulFunction, LawfulGoal, Each, sig_of, concat, encode_list, encode_part, encode_type, encode_function, encode_unknown, encode_goal, encode_end, encode_problem}
+use Rattle.syntax.specs.Problems.{Function, Problem, LawfulFunction, LawfulGoal, Each, sig_of, concat, encode_list, encode_type, encode_function, encode_unknown, encode_goal, encode_end}
 use Rattle.tables.specs.Tabled.{places_of}
 use Rattle.ends.specs.Ends.{StandsAt}
 use Rattle.verdict.specs.Exact.{Encodes}

@@ -1,13 +1,12 @@
 -- What is taken from bytes: the problem that they are, or else the empty one. Assumes nothing.
-use Rattle.std.proofs.Common.{◌≡◌, ℕ, true, false, cond, List, is_ok, Ok, Err, Result, sym, refl, ap, ◌∙◌, subst}
+use Rattle.std.proofs.Common.{◌≡◌, ℕ, true, false, cond, List, is_ok, Ok, Err, Result, sym, refl, ap, ◌∙◌}
 use Rattle.std.proofs.lemmas.Bool.{true≢false}
 use Rattle.syntax.specs.declared.faults.Fault.{Fault}
 use Rattle.syntax.specs.Problems.{empty_problem, encode_end, Problem as Meaning}
 use Rattle.verdict.specs.Verdict.{verdict, problem_in, decoded}
-use Rattle.verdict.specs.Exact.{Encodes}
 use Rattle.verdict.proofs.Exact.{verdict_is_exact}
 use Rattle.kept.specs.Layout.{read_from}
-use Rattle.problem.specs.Meant.{held, meant}
+use Rattle.problem.specs.Meant.{held}
 use Rattle.problem.specs.Taken.{Taken}
 use Rattle.problem.specs.declared.problem.Problem.{Problem}
 

@@ -4,7 +4,7 @@ use Rattle.std.proofs.lemmas.List.{get_or-drop, length-drop, length-set, length-
 use Rattle.syntax.specs.Terms.{Term, Terms, var, unknown, con, call, case, both, not, equal, t[], ◌t∷◌, encode, encodes}
 use Rattle.syntax.specs.Typing.{Sig, Want, want, each_of, branches_of, AllTyped, constructors, arguments, params_of, cases_of}
 use Rattle.reading.specs.Reading.{tag_of}
-use Rattle.ends.specs.Ends.{hop, hops, end_at, at_most, filled, ends_of, nth, parts_in, wants_in, head_in, StandsAt, PartsStand}
+use Rattle.ends.specs.Ends.{hop, hops, end_at, at_most, filled, ends_of, nth, StandsAt, PartsStand}
 use Rattle.ends.proofs.Ending.{ends_give_parts_lem, within}
 use Rattle.ends.proofs.Filling.{ends_stand}
 use Rattle.problem.specs.declared.view.View.{View}

@@ -1,4 +1,4 @@
-use Rattle.std.proofs.Common.{◌≡◌, ◌<◌, [], length, get_or, vec_items, sym, ap, ◌∙◌, arith}
+use Rattle.std.proofs.Common.{[], length, get_or, vec_items, sym, ap, ◌∙◌, arith}
 use Rattle.std.proofs.lemmas.List.{get_or_past}
 use Rattle.syntax.specs.Tables.{listed}
 use Rattle.syntax.specs.Typing.{cases_of}
@@ -14,12 +14,12 @@ pub bounds-types-t : goal.bounds-types-t
 bounds-types-t c =
     let p = c.args.self.now in
     let low = type_there (vec_items p.types) (sig p).types c.args.t c.args.c p.types_held (omega arith) in
-    let same = ap length c.as-slice-types.ensures.value in
+    let same = ap length c.as_slice-types.ensures.value in
     omega arith
 
 pub returns : goal.returns
 returns c =
     let p = c.args.self.now in
     c.types_in.ensures.is
-    ∙ ap (λ ds. listed (get_or (get_or ds c.args.t no_datatype).constructors c.args.c no_list)) c.as-slice-types.ensures.value
+    ∙ ap (λ ds. listed (get_or (get_or ds c.args.t no_datatype).constructors c.args.c no_list)) c.as_slice-types.ensures.value
     ∙ arguments_there (vec_items p.types) (sig p).types c.args.t c.args.c p.types_held (omega arith)

@@ -7,5 +7,5 @@ use Rattle.problem.proofs.problem.Problem.bytes.Goals as goal
 pub returns : goal.returns
 returns c =
     let p = c.args.self.now in
-    let is = c.as-slice.ensures.value in
+    let is = c.as_slice.ensures.value in
     record { is = is; encodes = subst (Encodes (meant p)) (sym is) (is_encoded (held p) p.accepted p.written) }

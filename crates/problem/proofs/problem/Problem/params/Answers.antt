@@ -21,7 +21,7 @@ returns c =
     let long = p.functions.ok.0 in
     let low : c.args.f < length fs = omega arith in
     c.types_in.ensures.is
-    ∙ ap (λ cs. listed (get_or cs c.args.f no_callable).params) c.as-slice-functions.ensures.value
+    ∙ ap (λ cs. listed (get_or cs c.args.f no_callable).params) c.as_slice-functions.ensures.value
     ∙ read_map (λ f. listed f.params) fs (map (λ f. f.profile.params) (meant p).functions) c.args.f (get_or fs c.args.f no_callable) []
     p.params_held low (get_or_default fs c.args.f no_callable (get_or fs c.args.f no_callable) low)
     ∙ part_at (λ f. f.profile) (λ (q : Profile). q.params) (meant p).functions c.args.f no_profile
