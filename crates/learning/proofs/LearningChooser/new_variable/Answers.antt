@@ -2,7 +2,19 @@ use Rattle.std.proofs.Common.{◌+◌, vec_items, arith}
 use Rattle.rows.proofs.Rows.{inside_more}
 use Rattle.learning.proofs.LearningChooser.new_variable.Goals as goal
 
-pub invariant-of-self : goal.invariant-of-self
-invariant-of-self c =
+pub invariant_of-self : goal.invariant_of-self
+invariant_of-self c =
     let s = c.args.self.now in
-    (s.fits, (s.reserved, (s.small, (omega arith, (inside_more s.count (s.count + 1) (vec_items s.row) 0 (omega arith) s.whole, (s.wide, (s.lying, (s.lasting, (s.filled, (s.offs, (s.none, tt)))))))))))
+    record {
+      fits = s.fits;
+      reserved = s.reserved;
+      small = s.small;
+      few = omega arith;
+      whole = inside_more s.count (s.count + 1) (vec_items s.row) 0 (omega arith) s.whole;
+      wide = s.wide;
+      lying = s.lying;
+      lasting = s.lasting;
+      filled = s.filled;
+      offs = s.offs;
+      none = s.none;
+    }

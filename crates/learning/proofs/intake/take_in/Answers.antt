@@ -33,5 +33,5 @@ returns-then-at8-eq1 c =
       none = λ _ p. false_from (allowed c.args.row.now p) (λ x. both_ways (lit p l) (c.requires.offs l (sym c.at8.ensures ∙ c.if-at8-eq1.true) p x) (only p clause (omega arith) (c.requires.says p x)));
     }
 
-pub mark-true-requires : goal.mark-true-requires
-mark-true-requires c = record { offs = c.requires.offs; holds = λ p x. only p c.args.clause.now (omega arith) (c.requires.says p x) }
+pub mark_true-requires : goal.mark_true-requires
+mark_true-requires c = record { offs = c.requires.offs; holds = λ p x. only p c.args.clause.now (omega arith) (c.requires.says p x) }
