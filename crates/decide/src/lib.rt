@@ -10,8 +10,8 @@ use rows::is_whole;
 
 // Allots so many variables.
 fn allot<C: Chooser>(chooser: &mut C, variables: u16) -> Result<(), Fault>
-    requires { variables ≤ (meaning chooser.old).room }
-    ensures { Accepted (Taken (meaning chooser.old) (meaning chooser.new) variables) result }
+    requires { variables ≤ (C.meaning chooser.old).room }
+    ensures { Accepted (Taken (C.meaning chooser.old) (C.meaning chooser.new) variables) result }
 {
     for _ in 0..variables {
         chooser.new_variable()?;
@@ -21,9 +21,9 @@ fn allot<C: Chooser>(chooser: &mut C, variables: u16) -> Result<(), Fault>
 
 // Adds each clause of the row.
 fn add_row<C: Chooser>(chooser: &mut C, row: &[u16]) -> Result<(), Fault>
-    requires whole { inside (meaning chooser.old).count 0 row.now ≡ true }
-    requires fits { length row.now ≤ (meaning chooser.old).left }
-    ensures { Accepted (Narrowed (meaning chooser.old) (meaning chooser.new) row.now) result }
+    requires whole { inside (C.meaning chooser.old).count 0 row.now ≡ true }
+    requires fits { length row.now ≤ (C.meaning chooser.old).left }
+    ensures { Accepted (Narrowed (C.meaning chooser.old) (C.meaning chooser.new) row.now) result }
 {
     let mut at = 0;
     while at < row.len() {
@@ -45,7 +45,7 @@ pub fn decide<C: Chooser>(
     row: &[u16],
     answer: &mut [u8],
 ) -> Result<Answer, Fault>
-    ensures { Decided (meaning chooser.old) (meaning chooser.new) variables row.now answer.old answer.new result }
+    ensures { Decided (C.meaning chooser.old) (C.meaning chooser.new) variables row.now answer.old answer.new result }
 {
     if chooser.variables_left() < variables {
         return Err(Fault::NoVariable);

@@ -8,11 +8,11 @@ pub loop-init : goal.loop-init
 loop-init g c = taken_none (g.C.Chooser.meaning c.args.chooser.now)
 
 pub loop-preserved : goal.loop-preserved
-loop-preserved g c = taken_more _ _ _ c.«loop».invariant _ _ c.in-ok-new-variable.ensures
+loop-preserved g c = taken_more _ _ _ c.«loop».invariant _ _ c.in_ok-new_variable.ensures
 
-pub returns-in-err-new-variable : goal.returns-in-err-new-variable
-returns-in-err-new-variable g c =
-    absurd (taken_never _ _ _ c.«loop».invariant c.in-err-new-variable.field-0.0 c.args.variables c.loop-test.true c.requires c.in-err-new-variable.ensures.1)
+pub returns-in_err-new_variable : goal.returns-in_err-new_variable
+returns-in_err-new_variable g c =
+    absurd (taken_never _ _ _ c.«loop».invariant c.in_err-new_variable.field-0.0 c.args.variables c.loop-test.true c.requires c.in_err-new_variable.ensures.1)
 
 pub returns : goal.returns
 returns g c =
