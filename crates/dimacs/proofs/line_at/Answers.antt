@@ -6,8 +6,8 @@ use Rattle.dimacs.specs.Feed.{newlines}
 use Rattle.dimacs.proofs.line_at.Goals as goal
 use Rattle.dimacs.proofs.line_at.Goals.{then-b-eq-NEWLINE, else-b-eq-NEWLINE}
 
-pub overflow-add-line : goal.overflow-add-line
-overflow-add-line c =
+pub overflow_add-line : goal.overflow_add-line
+overflow_add-line c =
     let h = c.loop-b.invariant.1 in
     let size = length-take-le c.args.at c.args.text.now (omega arith) in
     search rules
