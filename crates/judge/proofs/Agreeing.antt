@@ -1,12 +1,12 @@
 -- One step of the definition at a time, and what the code's answer to it gives to the next.
-use Rattle.std.proofs.Common.{◌≡◌, ℕ, zero, suc, ◌+◌, ◌-◌, ◌*◌, ◌<◌, ◌≤◌, min, Bool, true, false, eqb, ◌⊎◌, List, [], ◌∷◌, ◌++◌, length, get_or, sym, refl, ap, ◌∙◌, subst, inl, inr, sub-one, arith}
+use Rattle.std.proofs.Common.{◌≡◌, ℕ, zero, suc, ◌+◌, ◌-◌, ◌<◌, ◌≤◌, min, List, [], ◌++◌, length, get_or, sym, refl, ap, subst, sub-one, arith}
 use mathlib.Core.Option.{Option, none, some}
 use Rattle.syntax.specs.Terms.{Term, Terms, t[], ◌t∷◌}
 use Rattle.syntax.specs.Problems.{Problem}
 use Rattle.judging.specs.Held.{Held, hold, free, Helds, h[], ◌h∷◌, missing, holds}
-use Rattle.judging.specs.Judging.{Unknowns, Head, is, waits, Verdict, same, differ, wait, Asks, Judging, go_on, give, of_unknown, join, join_verdict, and_right, and_true, and_waits, after_pair, pairs, headed, compared, judges}
+use Rattle.judging.specs.Judging.{Unknowns, Head, is, Verdict, same, Asks, Judging, go_on, give, join, join_verdict, and_right, and_true, after_pair, pairs, headed, compared, judges}
 use Rattle.held.specs.Explanations.{Adds}
-use Rattle.held.specs.Reading.{Text, Reads}
+use Rattle.held.specs.Reading.{Text}
 use Rattle.held.specs.Standing.{no_place, hlength, Stands, Row, Env}
 use Rattle.held.specs.declared.places.Held.{Held as Code}
 use Rattle.held.specs.declared.places.Held.TheVariants.{Missing, Term as At, Unknown}
@@ -17,7 +17,7 @@ use Rattle.judge.specs.declared.answers.Head.TheVariants.{Out, Waits, Is}
 use Rattle.judge.specs.declared.answers.Verdict.{Verdict as CodeVerdict}
 use Rattle.judge.specs.declared.answers.Verdict.TheVariants.{Out as OutV, Wait, Same as SameV, Differ}
 use Rattle.judge.specs.Texts.{tlength}
-use Rattle.judge.specs.Means.{Explains, Agrees, Concurs}
+use Rattle.judge.specs.Means.{Agrees, Concurs}
 use Rattle.judge.specs.declared.verdicts.Judgement.TheVariants.{False, True}
 use Rattle.judge.specs.Outcomes.{outcome}
 use Rattle.judge.proofs.Sets.{adds_append}

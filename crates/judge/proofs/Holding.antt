@@ -1,5 +1,5 @@
 -- Terms that are held one after another: they stand in a row, and bound to the next variables.
-use Rattle.std.proofs.Common.{◌≡◌, ℕ, zero, suc, ◌+◌, ◌-◌, ◌<◌, ◌≤◌, List, [], ◌∷◌, length, get_or, sym, refl, ap, ◌∙◌, subst, arith}
+use Rattle.std.proofs.Common.{◌≡◌, ℕ, suc, ◌+◌, ◌-◌, ◌<◌, List, [], ◌∷◌, length, get_or, sym, refl, ap, ◌∙◌, subst, arith}
 use Rattle.syntax.specs.Terms.{Term, Terms, t[], ◌t∷◌}
 use Rattle.judging.specs.Held.{Held, hold, Helds, h[], ◌h∷◌, holds, frees, ◌h++◌}
 use Rattle.held.specs.Reading.{Text, Reads}

@@ -1,5 +1,5 @@
 -- What is kept over one call after another: the steps, the places in use, and the room for more.
-use Rattle.std.proofs.Common.{◌≡◌, ℕ, ◌+◌, ◌-◌, ◌*◌, ◌<◌, ◌≤◌, List, refl, arith}
+use Rattle.std.proofs.Common.{ℕ, ◌+◌, ◌-◌, ◌<◌, ◌≤◌, List, refl, arith}
 use Rattle.held.specs.declared.places.Place.{Place}
 use Rattle.held.specs.Standing.{Same}
 use Rattle.held.proofs.Standing.{same_trans}

@@ -1,5 +1,5 @@
 -- A problem is lawful, so no constructor and no function has over six arguments, and there are at most 16 unknowns.
-use Rattle.std.proofs.Common.{◌≡◌, ℕ, zero, suc, ◌<◌, ◌≤◌, List, [], ◌∷◌, map, length, get_or, sym, refl, ap, ◌∙◌, subst, arith}
+use Rattle.std.proofs.Common.{ℕ, zero, suc, ◌≤◌, List, [], ◌∷◌, map, length, get_or, arith}
 use Rattle.syntax.specs.Typing.{Sig, no_profile, arguments, params_of}
 use Rattle.syntax.specs.Problems.{Function, Problem as Meaning, Lawful, LawfulType, LawfulFunction, FewTypes, Each, bool, sig_of}
 use Rattle.problem.specs.declared.problem.Problem.{Problem}

@@ -1,5 +1,5 @@
 -- How explanations add up, by which unknowns are members.
-use Rattle.std.proofs.Common.{◌≡◌, ℕ, ◌<◌, Bool, false, ◌||◌, eqb, List, [], ◌∷◌, ◌++◌, sym, refl, ap, ◌∙◌}
+use Rattle.std.proofs.Common.{◌≡◌, ℕ, false, ◌||◌, eqb, List, [], ◌∷◌, ◌++◌, sym, refl, ap, ◌∙◌}
 use mathlib.Core.Bool.{or-false, or_assoc, or_comm}
 use Rattle.held.specs.Explanations.{contains, member, Adds}
 use Rattle.judge.specs.Means.{Explains}

@@ -5,8 +5,8 @@ ghost use Rattle.judge.specs.Means.{Heads, TermsHeads, CasesHeads, AndsHeads, Co
 
 use crate::answers::{Head, Left, Verdict};
 use crate::decides::Decides;
+use crate::held_terms::{decided, hold_branch, hold_terms};
 use crate::outcomes::{and_true, and_waits, negate, past_same, past_wait, still_waits, truth};
-use crate::terms::{decided, hold_branch, hold_terms};
 use held::explanation::Explanation;
 use held::memory::{bind, lookup};
 use held::places::{Held, Place};
@@ -26,7 +26,7 @@ pub fn head<D: Decides>(
     requires { left.old.top + 6 * left.old.steps ≤ length memory.old }
     ensures kept { Kept 0 memory.old memory.new left.old left.new }
     ensures few { Few result }
-    ensures heads { Heads (text_of problem.now) (unknowns decider.now) memory.old left.old because.old.words memory.new left.new because.new.words at result }
+    ensures heads { Heads (text_of problem.now) (D.unknowns decider.now) memory.old left.old because.old.words memory.new left.new because.new.words at result }
 {
     if left.steps == 0 {
         return Head::Out;
@@ -59,7 +59,7 @@ fn head_of_term<D: Decides>(
     requires { left.old.top + 6 * left.old.steps + 6 ≤ length memory.old }
     ensures kept { Kept 6 memory.old memory.new left.old left.new }
     ensures few { Few result }
-    ensures heads { TermsHeads (text_of problem.now) (unknowns decider.now) memory.old left.old because.old.words memory.new left.new because.new.words place env result }
+    ensures heads { TermsHeads (text_of problem.now) (D.unknowns decider.now) memory.old left.old because.old.words memory.new left.new because.new.words place env result }
 {
     match problem.view(place) {
         View::Variable(variable) => {
@@ -136,7 +136,7 @@ fn head_of_case<D: Decides>(
     requires { left.old.top + 6 * left.old.steps + 6 ≤ length memory.old }
     ensures kept { Kept 6 memory.old memory.new left.old left.new }
     ensures few { Few result }
-    ensures heads { CasesHeads (text_of problem.now) (unknowns decider.now) memory.old left.old because.old.words memory.new left.new because.new.words ty subject env result }
+    ensures heads { CasesHeads (text_of problem.now) (D.unknowns decider.now) memory.old left.old because.old.words memory.new left.new because.new.words ty subject env result }
 {
     let asked = Held::Term {
         place: subject,
@@ -174,7 +174,7 @@ fn head_of_and<D: Decides>(
     requires { left.old.top + 6 * left.old.steps ≤ length memory.old }
     ensures kept { Kept 0 memory.old memory.new left.old left.new }
     ensures few { Few result }
-    ensures heads { AndsHeads (text_of problem.now) (unknowns decider.now) memory.old left.old because.old.words memory.new left.new because.new.words a b env result }
+    ensures heads { AndsHeads (text_of problem.now) (D.unknowns decider.now) memory.old left.old because.old.words memory.new left.new because.new.words a b env result }
 {
     let mut own = Explanation::nothing();
     let a = Held::Term { place: a, env };
@@ -213,7 +213,7 @@ pub fn compare<D: Decides>(
 ) -> Verdict
     requires { left.old.top + 6 * left.old.steps ≤ length memory.old }
     ensures kept { Kept 0 memory.old memory.new left.old left.new }
-    ensures compares { Compares (text_of problem.now) (unknowns decider.now) memory.old left.old because.old.words memory.new left.new because.new.words a b result }
+    ensures compares { Compares (text_of problem.now) (D.unknowns decider.now) memory.old left.old because.old.words memory.new left.new because.new.words a b result }
 {
     if left.steps == 0 {
         return Verdict::Out;
@@ -235,7 +235,7 @@ fn compared<D: Decides>(
 ) -> Verdict
     requires { left.old.top + 6 * left.old.steps ≤ length memory.old }
     ensures kept { Kept 0 memory.old memory.new left.old left.new }
-    ensures compared { Compared (text_of problem.now) (unknowns decider.now) memory.old left.old because.old.words memory.new left.new because.new.words a b result }
+    ensures compared { Compared (text_of problem.now) (D.unknowns decider.now) memory.old left.old because.old.words memory.new left.new because.new.words a b result }
 {
     match head(problem, decider, memory, left, because, a) {
         Head::Is {
@@ -279,7 +279,7 @@ fn arguments<D: Decides>(
 ) -> Verdict
     requires { left.old.top + 6 * left.old.steps ≤ length memory.old }
     ensures kept { Kept 0 memory.old memory.new left.old left.new }
-    ensures pairs { Pairs (text_of problem.now) (unknowns decider.now) memory.old left.old because.old.words memory.new left.new because.new.words xs ys count result }
+    ensures pairs { Pairs (text_of problem.now) (D.unknowns decider.now) memory.old left.old because.old.words memory.new left.new because.new.words xs ys count result }
 {
     if count == 0 || xs >= memory.len() || ys >= memory.len() {
         return Verdict::Same;

@@ -1,6 +1,6 @@
 // The judgement of a goal.
 ghost use Rattle.std.specs.Prelude.{◌≡◌, ℕ, ◌*◌, ◌<◌, ◌≤◌, length};
-ghost use Rattle.judging.specs.Held.{goal as goal-of};
+ghost use Rattle.judging.specs.Held.{goal as goal_of};
 ghost use Rattle.judging.specs.Judging.{judge};
 ghost use Rattle.judge.specs.Texts.{text_of};
 ghost use Rattle.judge.specs.Outcomes.{outcome, byte_of, Explained};
@@ -38,8 +38,8 @@ pub fn judge_goal<D: Decides>(
 ) -> Judgement
     requires room { 6 * steps ≤ length memory.old }
     requires known { goal < length (text_of problem.now).problem.goals }
-    ensures judged { result ≡ outcome (judge (text_of problem.now).problem (unknowns decider.now) (goal-of (text_of problem.now).problem goal) steps) }
-    ensures explained { Explained because.old.words because.new.words (judge (text_of problem.now).problem (unknowns decider.now) (goal-of (text_of problem.now).problem goal) steps) }
+    ensures judged { result ≡ outcome (judge (text_of problem.now).problem (D.unknowns decider.now) (goal_of (text_of problem.now).problem goal) steps) }
+    ensures explained { Explained because.old.words because.new.words (judge (text_of problem.now).problem (D.unknowns decider.now) (goal_of (text_of problem.now).problem goal) steps) }
 {
     let mut left = Left { steps, top: 0 };
     let place = problem.goal(goal);

@@ -5,6 +5,6 @@ pub mod answers;
 pub mod cycle;
 pub mod decides;
 pub mod goals;
+pub mod held_terms;
 pub mod outcomes;
-pub mod terms;
 pub mod verdicts;

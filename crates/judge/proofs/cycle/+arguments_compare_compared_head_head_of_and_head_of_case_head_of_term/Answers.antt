@@ -1,7 +1,7 @@
-use Rattle.std.proofs.Common.{◌≡◌, ℕ, ◌+◌, ◌-◌, ◌*◌, ◌<◌, ◌≤◌, Bool, List, [], ◌∷◌, ◌++◌, sym, refl, ap, ◌∙◌, subst, arith}
+use Rattle.std.proofs.Common.{◌≡◌, ℕ, ◌+◌, ◌-◌, Bool, [], ◌++◌, sym, refl, ap, ◌∙◌, arith}
 use Rattle.std.proofs.lemmas.Bool.{eq-eqb, ne_eqb}
 use Rattle.syntax.specs.Terms.{Term}
-use Rattle.judging.specs.Held.{Held, hold, free, Helds, h[], branch, no_function, body_of, bound, holds, ◌h++◌}
+use Rattle.judging.specs.Held.{Held, hold, h[], branch, no_function, body_of, bound, holds, ◌h++◌}
 use Rattle.judging.specs.Judging.{Unknowns, Head, Asks, Judging, go_on, give, of_unknown, after_pair, pairs, by_constructors, after_right, after_left, after_subject, and_right, headed, judges}
 use Rattle.held.specs.Reading.{Text, Reads}
 use Rattle.judge.specs.Texts.{text_of, tlength}
@@ -44,7 +44,7 @@ arguments-returns-in-Same g t c =
           let v = (c.in-Same.ensures.compares d h k le sh sk).means in
           let rest = after_pair (pairs A hs ks) in
           by_verdict (ap (go_on rest) (sym v.1))
-          (c.past-same.ensures c.arguments-rest.new.left c.args.because.now.words v.0 _ (explains c.nothing-own.result.words c.compare.new.because.words c.nothing-own.ensures v.2)
+          (c.past_same.ensures c.arguments-rest.new.left c.args.because.now.words v.0 _ (explains c.nothing-own.result.words c.compare.new.because.words c.nothing-own.ensures v.2)
           (c.arguments-rest.ensures.pairs d hs ks (omega arith) less
           (row_grows (Reads x) m c.compare.new.memory l.top c.compare.new.left.top (omega arith) c.compare.ensures.kept.same (c.args.xs + 1) hs rhs)
           (row_grows (Reads x) m c.compare.new.memory l.top c.compare.new.left.top (omega arith) c.compare.ensures.kept.same (c.args.ys + 1) ks rks))));
@@ -82,7 +82,7 @@ arguments-returns-in-Wait g t c =
           let v = (c.in-Wait.ensures.compares d h k le sh sk).means in
           let rest = after_pair (pairs A hs ks) in
           by_verdict (ap (go_on rest) (sym v))
-          (c.past-wait.ensures c.arguments-rest-in-Wait.new.left c.args.because.now.words c.arguments-rest-in-Wait.new.because.words _
+          (c.past_wait.ensures c.arguments-rest-in-Wait.new.left c.args.because.now.words c.arguments-rest-in-Wait.new.because.words _
           (c.arguments-rest-in-Wait.ensures.pairs d hs ks (omega arith) less
           (row_grows (Reads x) m c.compare.new.memory l.top c.compare.new.left.top (omega arith) c.compare.ensures.kept.same (c.args.xs + 1) hs rhs)
           (row_grows (Reads x) m c.compare.new.memory l.top c.compare.new.left.top (omega arith) c.compare.ensures.kept.same (c.args.ys + 1) ks rks))));
@@ -210,7 +210,7 @@ compared-returns-in-Waits g t c =
           let A : Asks ℕ = judges x.problem K d in
           let v = (c.in-Waits.ensures.heads d h le sh).means in
           by_verdict (ap (go_on (after_left A k)) (sym v))
-          (c.still-waits.ensures x c.head-right.new.memory c.head-right.new.left _ _ _ _ _ (c.head-right.ensures.heads d k (omega arith) (stands_grows (Reads x) m c.head.new.memory l.top c.head.new.left.top (omega arith) c.head.ensures.kept.same c.args.b k sk)));
+          (c.still_waits.ensures x c.head-right.new.memory c.head-right.new.left _ _ _ _ _ (c.head-right.ensures.heads d k (omega arith) (stands_grows (Reads x) m c.head.new.memory l.top c.head.new.left.top (omega arith) c.head.ensures.kept.same c.args.b k sk)));
     }
 
 pub head-returns-then-left-eq0 : goal.head-returns-then-left-eq0
@@ -261,15 +261,15 @@ head-returns-in-Term g t c =
     let m = c.args.memory.now in
     let l = c.args.left.now in
     record {
-      kept = kept_step (omega arith) (omega arith) c.head-of-term.ensures.kept;
-      few = c.head-of-term.ensures.few;
+      kept = kept_step (omega arith) (omega arith) c.head_of_term.ensures.kept;
+      few = c.head_of_term.ensures.few;
       heads = λ d h le s.
           let q = stands_term (Reads x) m l.top c.args.at c.in-Term.place c.in-Term.env h c.in-Term.is s in
-          by (ap (λ (k : Held ℕ). headed x.problem K (judges x.problem K (d - 1)) k (l.steps - 1)) (sym q.2) ∙ opens x.problem K d l.steps h (omega arith) (omega arith)) (c.head-of-term.ensures.heads (d - 1) q.0 q.1 (omega arith) q.3 q.4);
+          by (ap (λ (k : Held ℕ). headed x.problem K (judges x.problem K (d - 1)) k (l.steps - 1)) (sym q.2) ∙ opens x.problem K d l.steps h (omega arith) (omega arith)) (c.head_of_term.ensures.heads (d - 1) q.0 q.1 (omega arith) q.3 q.4);
     }
 
-pub head-of-and-returns-then-constructor-eq0 : goal.head-of-and-returns-then-constructor-eq0
-head-of-and-returns-then-constructor-eq0 g t c =
+pub head_of_and-returns-then-constructor-eq0 : goal.head_of_and-returns-then-constructor-eq0
+head_of_and-returns-then-constructor-eq0 g t c =
     let x : Text = text_of c.args.problem.now in
     let K : Unknowns ℕ = g.D.Decides.unknowns c.args.decider.now in
     let m = c.args.memory.now in
@@ -292,8 +292,8 @@ head-of-and-returns-then-constructor-eq0 g t c =
           };
     }
 
-pub head-of-and-returns-else-constructor-eq0 : goal.head-of-and-returns-else-constructor-eq0
-head-of-and-returns-else-constructor-eq0 g t c =
+pub head_of_and-returns-else-constructor-eq0 : goal.head_of_and-returns-else-constructor-eq0
+head_of_and-returns-else-constructor-eq0 g t c =
     let x : Text = text_of c.args.problem.now in
     let K : Unknowns ℕ = g.D.Decides.unknowns c.args.decider.now in
     let m = c.args.memory.now in
@@ -309,8 +309,8 @@ head-of-and-returns-else-constructor-eq0 g t c =
           (c.head-right.ensures.heads d (hold u ρ) (omega arith) (ru, (binds_grows (Reads x) m c.head.new.memory l.top c.head.new.left.top (omega arith) c.head.ensures.kept.same 0 0 c.args.env ρ b))));
     }
 
-pub head-of-and-returns-in-Waits : goal.head-of-and-returns-in-Waits
-head-of-and-returns-in-Waits g t c =
+pub head_of_and-returns-in-Waits : goal.head_of_and-returns-in-Waits
+head_of_and-returns-in-Waits g t c =
     let x : Text = text_of c.args.problem.now in
     let K : Unknowns ℕ = g.D.Decides.unknowns c.args.decider.now in
     let m = c.args.memory.now in
@@ -326,8 +326,8 @@ head-of-and-returns-in-Waits g t c =
           (c.head-right-in-Waits.ensures.heads d (hold u ρ) (omega arith) (ru, (binds_grows (Reads x) m c.head.new.memory l.top c.head.new.left.top (omega arith) c.head.ensures.kept.same 0 0 c.args.env ρ b))));
     }
 
-pub head-of-case-returns-in-Is : goal.head-of-case-returns-in-Is
-head-of-case-returns-in-Is g t c =
+pub head_of_case-returns-in-Is : goal.head_of_case-returns-in-Is
+head_of_case-returns-in-Is g t c =
     let x : Text = text_of c.args.problem.now in
     let K : Unknowns ℕ = g.D.Decides.unknowns c.args.decider.now in
     let m = c.args.memory.now in
@@ -342,11 +342,11 @@ head-of-case-returns-in-Is g t c =
           by (ap (go_on (after_subject A ts ρ)) (sym v.2))
           (agrees_join c.head-in-Is.result v.5
           (c.head-in-Is.ensures.heads d (hold (branch ts c.in-Is.constructor) (ρ h++ v.0)) (omega arith)
-          (c.hold-branch-branch.ensures c.bind-env.new.memory _ t ts (ρ h++ v.0) long rts env)));
+          (c.hold_branch-branch.ensures c.bind-env.new.memory _ t ts (ρ h++ v.0) long rts env)));
     }
 
-pub head-of-term-returns-in-Variable : goal.head-of-term-returns-in-Variable
-head-of-term-returns-in-Variable g t c =
+pub head_of_term-returns-in-Variable : goal.head_of_term-returns-in-Variable
+head_of_term-returns-in-Variable g t c =
     let x : Text = text_of c.args.problem.now in
     let K : Unknowns ℕ = g.D.Decides.unknowns c.args.decider.now in
     let m = c.args.memory.now in
@@ -360,8 +360,8 @@ head-of-term-returns-in-Variable g t c =
           by (ap at (sym s)) (c.head.ensures.heads d (bound ρ c.in-Variable.variable) le (c.lookup-held.ensures x l.top ρ b));
     }
 
-pub head-of-term-returns-in-Unknown : goal.head-of-term-returns-in-Unknown
-head-of-term-returns-in-Unknown g t c =
+pub head_of_term-returns-in-Unknown : goal.head_of_term-returns-in-Unknown
+head_of_term-returns-in-Unknown g t c =
     let x : Text = text_of c.args.problem.now in
     let K : Unknowns ℕ = g.D.Decides.unknowns c.args.decider.now in
     let m = c.args.memory.now in
@@ -375,32 +375,32 @@ head-of-term-returns-in-Unknown g t c =
           by (ap (λ (u : ℕ). give (of_unknown K u (K.chosen u)) l.steps) c.root-unknown.ensures ∙ ap at (sym s)) (c.decided.ensures.agrees x);
     }
 
-pub head-of-term-returns-in-Constructor : goal.head-of-term-returns-in-Constructor
-head-of-term-returns-in-Constructor g t c =
+pub head_of_term-returns-in-Constructor : goal.head_of_term-returns-in-Constructor
+head_of_term-returns-in-Constructor g t c =
     let x : Text = text_of c.args.problem.now in
     let K : Unknowns ℕ = g.D.Decides.unknowns c.args.decider.now in
     let m = c.args.memory.now in
     let l = c.args.left.now in
     record {
-      kept = kept_held (omega (arith, c.min-count.ensures)) c.hold-terms.ensures.same;
+      kept = kept_held (omega (arith, c.min-count.ensures)) c.hold_terms.ensures.same;
       few = omega (arith, c.min-count.ensures);
       heads = λ d t ρ le rt b.
           let s = shown c.args.problem.now c.args.place (view.Constructor c.in-Constructor.ty c.in-Constructor.constructor c.in-Constructor.arity c.in-Constructor.arguments) c.in-Constructor.ensures.shows t rt in
           let at = λ (u : Term). headed x.problem K (judges x.problem K d) (hold u ρ) l.steps in
           let long : c.min-count.result ≡ tlength s.0 = (omega (arith, c.min-count.ensures, s.2, s.3)) in
           record {
-            means = (holds s.0 ρ, [], ap at s.1, long ∙ holds_length s.0 ρ, c.hold-terms.ensures.row s.0 ρ long s.4 b, adds_none);
+            means = (holds s.0 ρ, [], ap at s.1, long ∙ holds_length s.0 ρ, c.hold_terms.ensures.row s.0 ρ long s.4 b, adds_none);
           };
     }
 
-pub head-of-term-returns-in-Call : goal.head-of-term-returns-in-Call
-head-of-term-returns-in-Call g t c =
+pub head_of_term-returns-in-Call : goal.head_of_term-returns-in-Call
+head_of_term-returns-in-Call g t c =
     let x : Text = text_of c.args.problem.now in
     let K : Unknowns ℕ = g.D.Decides.unknowns c.args.decider.now in
     let m = c.args.memory.now in
     let l = c.args.left.now in
     record {
-      kept = kept_then (omega (arith, c.min-count-in-Call.ensures)) c.hold-terms-env.ensures.same c.head-in-Call.ensures.kept;
+      kept = kept_then (omega (arith, c.min-count-in-Call.ensures)) c.hold_terms-env.ensures.same c.head-in-Call.ensures.kept;
       few = c.head-in-Call.ensures.few;
       heads = λ d t ρ le rt b.
           let s = shown c.args.problem.now c.args.place (view.Call c.in-Call.function c.in-Call.arity c.in-Call.arguments) c.in-Call.ensures.shows t rt in
@@ -408,41 +408,41 @@ head-of-term-returns-in-Call g t c =
           let long : c.min-count-in-Call.result ≡ tlength s.0 = (omega (arith, c.min-count-in-Call.ensures, s.2, s.3)) in
           by (ap at (sym s.1))
           (c.head-in-Call.ensures.heads d (hold (body_of x.problem c.in-Call.function) (holds s.0 ρ)) le
-          (reads (c.body-place.ensures.stands no_function s.4), c.hold-terms-env.ensures.bound s.0 ρ h[] long s.5 b refl));
+          (reads (c.body-place.ensures.stands no_function s.4), c.hold_terms-env.ensures.bound s.0 ρ h[] long s.5 b refl));
     }
 
-pub head-of-term-returns-in-Case : goal.head-of-term-returns-in-Case
-head-of-term-returns-in-Case g t c =
+pub head_of_term-returns-in-Case : goal.head_of_term-returns-in-Case
+head_of_term-returns-in-Case g t c =
     let x : Text = text_of c.args.problem.now in
     let K : Unknowns ℕ = g.D.Decides.unknowns c.args.decider.now in
     let m = c.args.memory.now in
     let l = c.args.left.now in
     record {
-      kept = c.head-of-case.ensures.kept;
-      few = c.head-of-case.ensures.few;
+      kept = c.head_of_case.ensures.kept;
+      few = c.head_of_case.ensures.few;
       heads = λ d t ρ le rt b.
           let s = shown c.args.problem.now c.args.place (view.Case c.in-Case.ty c.in-Case.subject) c.in-Case.ensures.shows t rt in
           let at = λ (u : Term). headed x.problem K (judges x.problem K d) (hold u ρ) l.steps in
-          by (ap at (sym s.2)) (c.head-of-case.ensures.heads d s.0 s.1 ρ le s.3 s.4 s.5 b);
+          by (ap at (sym s.2)) (c.head_of_case.ensures.heads d s.0 s.1 ρ le s.3 s.4 s.5 b);
     }
 
-pub head-of-term-returns-in-And : goal.head-of-term-returns-in-And
-head-of-term-returns-in-And g t c =
+pub head_of_term-returns-in-And : goal.head_of_term-returns-in-And
+head_of_term-returns-in-And g t c =
     let x : Text = text_of c.args.problem.now in
     let K : Unknowns ℕ = g.D.Decides.unknowns c.args.decider.now in
     let m = c.args.memory.now in
     let l = c.args.left.now in
     record {
-      kept = kept_spare c.head-of-and.ensures.kept;
-      few = c.head-of-and.ensures.few;
+      kept = kept_spare c.head_of_and.ensures.kept;
+      few = c.head_of_and.ensures.few;
       heads = λ d t ρ le rt b.
           let s = shown c.args.problem.now c.args.place (view.And c.in-And.a c.in-And.b) c.in-And.ensures.shows t rt in
           let at = λ (u : Term). headed x.problem K (judges x.problem K d) (hold u ρ) l.steps in
-          by (ap at (sym s.2)) (c.head-of-and.ensures.heads d s.0 s.1 ρ le s.3 s.4 b);
+          by (ap at (sym s.2)) (c.head_of_and.ensures.heads d s.0 s.1 ρ le s.3 s.4 b);
     }
 
-pub head-of-term-returns-in-Not : goal.head-of-term-returns-in-Not
-head-of-term-returns-in-Not g t c =
+pub head_of_term-returns-in-Not : goal.head_of_term-returns-in-Not
+head_of_term-returns-in-Not g t c =
     let x : Text = text_of c.args.problem.now in
     let K : Unknowns ℕ = g.D.Decides.unknowns c.args.decider.now in
     let m = c.args.memory.now in
@@ -457,8 +457,8 @@ head-of-term-returns-in-Not g t c =
           (c.negate.ensures.agrees x c.head-a.new.memory c.head-a.new.left _ _ _ (c.head-a.ensures.heads d (hold s.0 ρ) le (s.2, b)));
     }
 
-pub head-of-term-returns-in-Equal : goal.head-of-term-returns-in-Equal
-head-of-term-returns-in-Equal g t c =
+pub head_of_term-returns-in-Equal : goal.head_of_term-returns-in-Equal
+head_of_term-returns-in-Equal g t c =
     let x : Text = text_of c.args.problem.now in
     let K : Unknowns ℕ = g.D.Decides.unknowns c.args.decider.now in
     let m = c.args.memory.now in
@@ -474,8 +474,8 @@ head-of-term-returns-in-Equal g t c =
           (c.compared-v.ensures.compared d (hold s.1 ρ) (hold s.2 ρ) le (s.4, b) (s.5, b)));
     }
 
-pub head-of-term-returns-in-Nothing : goal.head-of-term-returns-in-Nothing
-head-of-term-returns-in-Nothing g t c = record {
+pub head_of_term-returns-in-Nothing : goal.head_of_term-returns-in-Nothing
+head_of_term-returns-in-Nothing g t c = record {
   kept = kept_spare kept_refl;
   few = tt;
   heads = λ d t ρ le rt b. absurd (shown c.args.problem.now c.args.place view.Nothing c.in-Nothing.ensures.shows t rt);

@@ -13,11 +13,11 @@ decreases-compared g l = 512 * l.left.now.steps + 300
 abbrev pub decreases-head : goal.decreases-head
 decreases-head g l = 512 * l.left.now.steps
 
-abbrev pub decreases-head-of-and : goal.decreases-head-of-and
-decreases-head-of-and g l = 512 * l.left.now.steps + 300
+abbrev pub decreases-head_of_and : goal.decreases-head_of_and
+decreases-head_of_and g l = 512 * l.left.now.steps + 300
 
-abbrev pub decreases-head-of-case : goal.decreases-head-of-case
-decreases-head-of-case g l = 512 * l.left.now.steps + 300
+abbrev pub decreases-head_of_case : goal.decreases-head_of_case
+decreases-head_of_case g l = 512 * l.left.now.steps + 300
 
-abbrev pub decreases-head-of-term : goal.decreases-head-of-term
-decreases-head-of-term g l = 512 * l.left.now.steps + 400
+abbrev pub decreases-head_of_term : goal.decreases-head_of_term
+decreases-head_of_term g l = 512 * l.left.now.steps + 400

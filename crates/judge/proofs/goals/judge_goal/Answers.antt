@@ -1,9 +1,9 @@
-use Rattle.std.proofs.Common.{◌≡◌, ℕ, ◌<◌, ◌≤◌, List, sym, refl, ap, ◌∙◌, subst, arith}
-use mathlib.Core.Option.{Option, some}
-use Rattle.judging.specs.Held.{Held, h[], missing, goal as goal'}
+use Rattle.std.proofs.Common.{ℕ, sym, refl, ap, ◌∙◌, subst, arith}
+use mathlib.Core.Option.{Option}
+use Rattle.judging.specs.Held.{missing, goal as goal'}
 use Rattle.judge.specs.Texts.{text_of}
 use Rattle.judge.proofs.Texts.{reads}
-use Rattle.judging.specs.Judging.{Unknowns, Head, judge, judges}
+use Rattle.judging.specs.Judging.{Head}
 use Rattle.held.specs.Reading.{Text}
 use Rattle.judge.specs.Outcomes.{outcome, Explained}
 use Rattle.judge.proofs.Agreeing.{false_said, true_said}

@@ -1,4 +1,4 @@
-use Rattle.std.proofs.Common.{◌++◌, sym, refl, ap, ◌∙◌, subst, arith}
+use Rattle.std.proofs.Common.{◌++◌, refl, ap, ◌∙◌, subst, arith}
 use Rattle.judging.specs.Held.{h[]}
 use Rattle.judging.specs.Judging.{go_on, give, and_true}
 use Rattle.judge.specs.declared.answers.Head.{Head as CodeHead}

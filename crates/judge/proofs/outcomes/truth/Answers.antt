@@ -1,7 +1,6 @@
-use Rattle.std.proofs.Common.{ℕ, refl, ap, subst, arith}
-use mathlib.Core.Option.{Option}
+use Rattle.std.proofs.Common.{refl, ap, subst, arith}
 use Rattle.judging.specs.Held.{h[]}
-use Rattle.judging.specs.Judging.{Verdict, go_on, give, truth}
+use Rattle.judging.specs.Judging.{go_on, give, truth}
 use Rattle.judge.specs.declared.answers.Verdict.{Verdict as CodeVerdict}
 use Rattle.judge.specs.Means.{VerdictAs}
 use Rattle.judge.proofs.outcomes.truth.Goals as goal

@@ -1,6 +1,6 @@
 use Rattle.std.proofs.Common.{arith}
 use Rattle.judge.proofs.Texts.{rest_of, no_branch}
-use Rattle.judge.proofs.terms.hold_branch.Goals as goal
+use Rattle.judge.proofs.held_terms.hold_branch.Goals as goal
 
 pub returns-then-constructor-constructors : goal.returns-then-constructor-constructors
 returns-then-constructor-constructors c m top u us ρ long r b =

@@ -83,7 +83,7 @@ pub fn decided<D: Decides>(
     requires { left.old.top + 6 * left.old.steps + 6 ≤ length memory.old }
     ensures kept { Kept 6 memory.old memory.new left.old left.new }
     ensures few { Few result }
-    ensures agrees { (x : Text) → Agrees x memory.new left.new because.old.words because.new.words result (some (of_unknown (unknowns decider.now) unknown ((unknowns decider.now).chosen unknown), left.old.steps)) }
+    ensures agrees { (x : Text) → Agrees x memory.new left.new because.old.words because.new.words result (some (of_unknown (D.unknowns decider.now) unknown ((D.unknowns decider.now).chosen unknown), left.old.steps)) }
 {
     match decider.choice(unknown) {
         Some(choice) => {
