@@ -73,14 +73,14 @@ fn answer<C: Chooser>(rt: &HostRuntime, chooser: &mut C, formula: &Formula) -> a
             Ok(say_values(rt, values.as_slice())?)
         }
         Ok(Answer::No) => Ok(println!(rt; "s UNSATISFIABLE")?),
-        Err(fault) => Err(refusal(fault).into()),
+        Err(fault) => Err(anyhow!(refusal(fault))),
     }
 }
 
 fn unmade(fault: MakeFault) -> anyhow::Error {
     match fault {
-        MakeFault::TooManyEntries => "a chooser of too many entries".into(),
-        MakeFault::NoMemory => "no memory".into(),
+        MakeFault::TooManyEntries => anyhow!("a chooser of too many entries"),
+        MakeFault::NoMemory => anyhow!("no memory"),
     }
 }
 
