@@ -2,7 +2,7 @@
 ghost use Rattle.std.specs.Prelude.{◌≡◌, ◌+◌, ◌≤◌, length};
 ghost use Rattle.verdict.specs.Examined.{Examined};
 
-use crate::terms::check_terms;
+use crate::checked_terms::check_terms;
 use crate::types::check_types;
 use syntax::faults::Fault;
 use syntax::tables::{Callable, Datatype, Signature, Span};

@@ -2,6 +2,6 @@
 #![tactic(auto)]
 
 pub mod check;
+pub mod checked_terms;
 pub mod examine;
-pub mod terms;
 pub mod types;

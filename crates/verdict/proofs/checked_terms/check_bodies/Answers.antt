@@ -3,7 +3,7 @@ use Rattle.std.proofs.lemmas.Result.{err_from_is_err_and}
 use Rattle.syntax.specs.Tables.{declared_in}
 use Rattle.declarations.proofs.Walks.{no_callable}
 use Rattle.verdict.proofs.Checks.{body_passed, body_refused, bodies_done}
-use Rattle.verdict.proofs.terms.check_bodies.Goals as goal
+use Rattle.verdict.proofs.checked_terms.check_bodies.Goals as goal
 
 pub returns-in_err-check_body : goal.returns-in_err-check_body
 returns-in_err-check_body c =

@@ -2,7 +2,7 @@ use Rattle.std.proofs.Common.{Err, sym, ap, ◌∙◌, arith}
 use Rattle.std.proofs.lemmas.Result.{err_from_is_err_and}
 use Rattle.syntax.specs.Tables.{declared_in}
 use Rattle.verdict.proofs.Checks.{goal_passed, goal_refused, goals_done, no_span}
-use Rattle.verdict.proofs.terms.check_goals.Goals as goal
+use Rattle.verdict.proofs.checked_terms.check_goals.Goals as goal
 
 pub returns-in_err-check_goal : goal.returns-in_err-check_goal
 returns-in_err-check_goal c =

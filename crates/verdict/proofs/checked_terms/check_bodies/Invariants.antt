@@ -1,7 +1,7 @@
 use Rattle.std.proofs.Common.{◌≡◌, ◌+◌, ◌≤◌, length, drop}
 use Rattle.syntax.specs.Tables.{declared_in}
 use Rattle.verdict.specs.ByTables.{fault_of, bodies_by}
-use Rattle.verdict.proofs.terms.check_bodies.Given as goal
+use Rattle.verdict.proofs.checked_terms.check_bodies.Given as goal
 
 -- the bodies that are left give the answer
 abbrev pub invariant-loop-function : goal.invariant-loop-function

@@ -1,7 +1,7 @@
 use Rattle.std.proofs.Common.{◌≡◌, ◌+◌, ◌≤◌, length, drop}
 use Rattle.syntax.specs.Tables.{declared_in}
 use Rattle.verdict.specs.ByTables.{fault_of, goals_by}
-use Rattle.verdict.proofs.terms.check_goals.Given as goal
+use Rattle.verdict.proofs.checked_terms.check_goals.Given as goal
 
 abbrev pub invariant-loop-goal : goal.invariant-loop-goal
 invariant-loop-goal l =

@@ -1,7 +1,7 @@
 use Rattle.std.proofs.Common.{◌≡◌, ◌+◌, ◌-◌, take, drop, ap, ◌∙◌, arith}
 use Rattle.syntax.specs.Tables.{listed, declared_in}
 use Rattle.reading.specs.Reading.{reading, verdict}
-use Rattle.verdict.proofs.terms.check_body.Goals as goal
+use Rattle.verdict.proofs.checked_terms.check_body.Goals as goal
 
 -- the slice of the bytes from the body's start to its end is the body
 pub returns : goal.returns

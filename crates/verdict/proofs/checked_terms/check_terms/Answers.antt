@@ -2,7 +2,7 @@ use Rattle.std.proofs.Common.{Err, sym, ap, ◌∙◌}
 use Rattle.std.proofs.lemmas.Result.{err_from_is_err_and}
 use Rattle.syntax.specs.Tables.{declared_in}
 use Rattle.verdict.proofs.Checks.{terms_passed, terms_refused}
-use Rattle.verdict.proofs.terms.check_terms.Goals as goal
+use Rattle.verdict.proofs.checked_terms.check_terms.Goals as goal
 
 pub returns-in_err-check_bodies : goal.returns-in_err-check_bodies
 returns-in_err-check_bodies c =

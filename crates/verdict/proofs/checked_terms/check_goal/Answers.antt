@@ -1,7 +1,7 @@
 use Rattle.std.proofs.Common.{◌≡◌, ◌+◌, ◌-◌, [], take, drop, ap, ◌∙◌, arith}
 use Rattle.syntax.specs.Tables.{declared_in}
 use Rattle.reading.specs.Reading.{reading, verdict}
-use Rattle.verdict.proofs.terms.check_goal.Goals as goal
+use Rattle.verdict.proofs.checked_terms.check_goal.Goals as goal
 
 pub returns : goal.returns
 returns c =
