@@ -33,7 +33,8 @@ OTHERWISE = {
 }
 
 NAME = r"[^\s(){}\[\].,;:\"«»]+(?:\[\][^\s(){}\[\].,;:\"«»]*)?"
-HEAD = re.compile(r"^(\s*)((?:(?:abbrev|unfoldable|pub|mutual)\s+)*)(?:(data|record)\s+)?(" + NAME + r")((?:\s+(?:\([^()]*(?:\([^()]*\)[^()]*)*\)|\{[^{}]*\}))*)\s*:\s(.*)$")
+PARAMETER = r"(?:\((?:[^()]|\((?:[^()]|\([^()]*\))*\))*\)|\{[^{}]*\})"
+HEAD = re.compile(r"^(\s*)((?:(?:abbrev|unfoldable|pub|mutual)\s+)*)(?:(data|record)\s+)?(" + NAME + r")((?:\s+" + PARAMETER + r")*)\s*:(?:\s(.*))?$")
 
 
 def files(root):
@@ -54,7 +55,7 @@ def defined(text):
         m = HEAD.match(code)
         if not m:
             continue
-        indent, kind, name, rest = len(m.group(1)), m.group(3), m.group(4), m.group(6)
+        indent, kind, name, rest = len(m.group(1)), m.group(3), m.group(4), m.group(6) or "→"
         if name in ("let", "in", "λ") or "=" in code.split(":")[0]:
             continue
         full = rest
@@ -74,6 +75,8 @@ def camel(name):
 
 def wanted(name, typed):
     new = name.replace("′", "'")
+    if typed and new[:1].isupper() and "_" in new and "[]" not in new and "◌" not in new:
+        new = new.replace("_", "-")
     if "-" in new.strip("-"):
         if new[:1].isupper() and typed:
             return camel(new)

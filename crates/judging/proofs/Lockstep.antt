@@ -9,7 +9,7 @@ use Rattle.judging.specs.Explained.{All, all[], ◌all∷◌}
 use Rattle.judging.specs.Scope.{Scoped}
 use Rattle.judging.specs.Asked.{Decided}
 use Rattle.judging.specs.Names.{named, nameds, named_head, named_verdict, result}
-use Rattle.judging.proofs.Related.{Together, Each₂, each[], ◌each∷◌, Like, l_free, l_hold, Likes, l[], ◌l∷◌, HeadLike, is_like, waits_like, VerdictLike, same_like, differ_like, wait_like, Matching, Asks_run, headed_run, compared_run}
+use Rattle.judging.proofs.Related.{Together, Each₂, each[], ◌each∷◌, Like, l_free, l_hold, Likes, l[], ◌l∷◌, HeadLike, is_like, waits_like, VerdictLike, same_like, differ_like, wait_like, Matching, AsksRun, headed_run, compared_run}
 
 -- both are OUT, or both have a result, with the same steps left
 abbrev pub Locked : {A B : Type 0} → (A → B → Type 0) → Option (A × ℕ) → Option (B × ℕ) → Type 0
@@ -136,7 +136,7 @@ module _ {U V : Type 0} (P : Problem) (K : Unknowns U) (L : Unknowns V) (N : ℕ
       waiting_to : (u : U) (v : V) → To name G u v → K.chosen u ≡ none → To name Awaited u v
       waiting_to u v (to g) e = to (g, e)
 
-  judges_lock : (n : ℕ) → Asks_run N (To name G) (To name InE) (To name Awaited) lockstep (judges P K n) (judges P L n)
+  judges_lock : (n : ℕ) → AsksRun N (To name G) (To name InE) (To name Awaited) lockstep (judges P K n) (judges P L n)
   unfolding judges
   judges_lock zero =
       record { heads = λ h k p. record { from = λ s. refl }; comparings = λ l r k s p q. record { from = λ s. refl } }

@@ -131,7 +131,7 @@ module _ {U V : Type 0} (N : ℕ → Type 0) (R D W : U → V → Type 0) where
   module _ (T : Together) where
     open T use {Run, run_give, run_then}
 
-    pub record Asks_run (A : Asks U) (B : Asks V) : Type 0 where
+    pub record AsksRun (A : Asks U) (B : Asks V) : Type 0 where
       pub heads : (h : Held U) (k : Held V) → Like N R h k → Run (A.head h) (B.head k) HL
       pub comparings : (l r : Held U) (k s : Held V) → Like N R l k → Like N R r s → Run (A.comparing l r) (B.comparing k s) VL
 
@@ -147,7 +147,7 @@ module _ {U V : Type 0} (N : ℕ → Type 0) (R D W : U → V → Type 0) where
     and_right_run k (is_like (suc c) w e) = run_then k (λ a b q. run_give (and_true_like e q))
     and_right_run k (waits_like w) = run_then k (λ a b q. run_give (and_waits_like w q))
 
-    module _ (A : Asks U) (B : Asks V) (S : Asks_run A B) where
+    module _ (A : Asks U) (B : Asks V) (S : AsksRun A B) where
       pairs_run : {xs ys : Helds U} {zs ws : Helds V} → Likes N R xs zs → Likes N R ys ws → Run (pairs A xs ys) (pairs B zs ws) VL
       pairs_run l[] q = run_give (same_like each[])
       pairs_run (p l∷ ps) l[] = run_give (same_like each[])

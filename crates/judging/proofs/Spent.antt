@@ -6,7 +6,7 @@ use Rattle.syntax.specs.Problems.{Problem}
 use Rattle.judging.specs.Held.{Held}
 use Rattle.judging.specs.Judging.{Unknowns, Head, Verdict, Judging, give, go_on, ◌then◌, step, judges, judge, compare}
 use Rattle.judging.specs.Steady.{Takes, JudgingTakes, ComparingTakes, MoreSteps}
-use Rattle.judging.proofs.Related.{Together, Asks_run, headed_run, compared_run}
+use Rattle.judging.proofs.Related.{Together, AsksRun, headed_run, compared_run}
 use Rattle.judging.proofs.Lockstep.{matching}
 use Rattle.judging.proofs.Alone.{own, Any, alone, like_own}
 use Rattle.judging.proofs.Steady.{R, D, W, H, V, head_same, verdict_same}
@@ -106,7 +106,7 @@ count_step {m = m} {n = n} {Q = Q} d k t = record { fall = fall_step t.fall; fro
         rw (suc-add s k) (counted_weaken Q d (suc d) k (omega arith) (m s) (n (s + k)) (t.from s (omega arith)))
 
 module _ {U : Type 0} (P : Problem) (K : Unknowns U) where
-  judges_fall : (n : ℕ) → Asks_run Any (R P K) (D P K) (W P K) falling (judges P K n) (judges P K n)
+  judges_fall : (n : ℕ) → AsksRun Any (R P K) (D P K) (W P K) falling (judges P K n) (judges P K n)
   unfolding judges
   judges_fall zero =
       record { heads = λ h g p. record { falls = λ s. tt }; comparings = λ l r g j p q. record { falls = λ s. tt } }
@@ -134,7 +134,7 @@ module _ {U : Type 0} (P : Problem) (K : Unknowns U) where
       step_less k t le
       (compared_run Any (R P K) (D P K) (W P K) falling (judges P K n) (judges P K n) (judges_fall n) (like_own l) (like_own r))
 
-  judges_count : (n k : ℕ) → Asks_run Any (R P K) (D P K) (W P K) (counting n k) (judges P K n) (judges P K (n + k))
+  judges_count : (n k : ℕ) → AsksRun Any (R P K) (D P K) (W P K) (counting n k) (judges P K n) (judges P K (n + k))
   unfolding judges
   judges_count zero k =
       record {

@@ -6,7 +6,7 @@ use Rattle.syntax.specs.Problems.{Problem}
 use Rattle.judging.specs.Held.{Held}
 use Rattle.judging.specs.Judging.{Unknowns, Head, Verdict, Judging, give, go_on, ◌then◌, step, headed, compared, judges, judge, compare}
 use Rattle.judging.specs.Steady.{itself, JudgeUnfolds, CompareUnfolds}
-use Rattle.judging.proofs.Related.{Together, HeadLike, VerdictLike, Asks_run, headed_run, compared_run}
+use Rattle.judging.proofs.Related.{Together, HeadLike, VerdictLike, AsksRun, headed_run, compared_run}
 use Rattle.judging.proofs.Lockstep.{To, InE, Awaited, matching, head_named, verdict_named}
 use Rattle.judging.proofs.Alone.{own, Any, alone, like_own, head_own, verdict_own}
 
@@ -91,7 +91,7 @@ module _ {U : Type 0} (P : Problem) (K : Unknowns U) where
   no_step_compare (suc n) zero le l r = refl
   no_step_compare (suc n) (suc s) le l r = absurd (omega arith)
 
-  judges_deep : (n k : ℕ) → Asks_run Any R D W (deeply n) (judges P K n) (judges P K (n + k))
+  judges_deep : (n k : ℕ) → AsksRun Any R D W (deeply n) (judges P K n) (judges P K (n + k))
   unfolding judges
   judges_deep zero k =
       record {
@@ -109,7 +109,7 @@ module _ {U : Type 0} (P : Problem) (K : Unknowns U) where
       }
 
   -- judging itself is judging to the depth n, up to n steps
-  itself_deep : (n : ℕ) → Asks_run Any R D W (deeply n) (itself P K) (judges P K n)
+  itself_deep : (n : ℕ) → AsksRun Any R D W (deeply n) (itself P K) (judges P K n)
   itself_deep n =
       record {
         heads = λ h g p. record {

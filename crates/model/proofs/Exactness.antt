@@ -9,7 +9,7 @@ use Rattle.syntax.specs.Typing.{Sig, constructors, arguments}
 use Rattle.syntax.specs.Problems.{Problem, sig_of}
 use Rattle.model.specs.Partial.{Partial, open_part, built, Partials, p[], ◌p∷◌, OfType, OfTypes, written, all_written, encode_from, Writes}
 use Rattle.model.specs.Reading.{and_then, there, right, ends, top_of, end_by, value_end, marked, start_of, preceded, places_from, reading}
-use Rattle.model.specs.Exact.{ModelIn, Read_in, ReadingIsExact}
+use Rattle.model.specs.Exact.{ModelIn, ReadIn, ReadingIsExact}
 use Rattle.model.proofs.Ends.{drop_none, value_open, value_built}
 use Rattle.model.proofs.Bytes.{was_ok, cond_ok, was_there, is_there, is_right, at_byte, three, TopAt, top_sound, top_open, top_built}
 

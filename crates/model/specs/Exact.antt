@@ -8,10 +8,10 @@ pub record ModelIn (p : Problem) (bytes : List ℕ) : Type 0 where
   pub parts : Partials
   pub writes : Writes p bytes parts
 
-pub record Read_in (p : Problem) (bytes : List ℕ) : Type 0 where
+pub record ReadIn (p : Problem) (bytes : List ℕ) : Type 0 where
   pub roots : List ℕ
   pub reads : reading p bytes ≡ Ok roots
 
 -- bytes are accepted exactly if they write a partial value of its type for each unknown, and nothing else
 abbrev pub ReadingIsExact : Type 0
-ReadingIsExact = (p : Problem) (bytes : List ℕ) → (Read_in p bytes → ModelIn p bytes) × (ModelIn p bytes → Read_in p bytes)
+ReadingIsExact = (p : Problem) (bytes : List ℕ) → (ReadIn p bytes → ModelIn p bytes) × (ModelIn p bytes → ReadIn p bytes)

@@ -5,10 +5,10 @@ use Rattle.syntax.specs.Faults.{fault}
 use Rattle.records.specs.Reading.{records}
 
 -- the naturals, an unknown and a goal of thirteen bytes
-example-naturals :
+example_naturals :
     records (0x44 ∷ 0x54 ∷ 2 ∷ 0 ∷ 1 ∷ 1 ∷ 0x55 ∷ 0x4B ∷ 1 ∷ 0x47 ∷ 0x4C ∷ 0 ∷ 2 ∷ 7 ∷ 1 ∷ 0x45 ∷ 0x4E ∷ [])
     ≡ Ok (record { types = ([] ∷ (1 ∷ []) ∷ []) ∷ []; functions = []; unknowns = 1 ∷ []; goals = (7 ∷ 1 ∷ []) ∷ [] })
-example-naturals = refl
+example_naturals = refl
 
 -- no bytes at all lack the end's mark; so does half a mark
 example_nothing : records [] ≡ Err (fault NoMark 0)

@@ -26,7 +26,7 @@ use Rattle.unknowns.specs.Listing.{Stands, DecidesAs}
 use Rattle.unknowns.specs.declared.table.Table.{Table as Code}
 use Rattle.unknowns.specs.declared.table.Case.{Case}
 use Rattle.rounds.specs.Parts.{Recorded}
-use Rattle.rounds.specs.Turns.{known, Goes_on, Closes}
+use Rattle.rounds.specs.Turns.{known, GoesOn, Closes}
 use Rattle.rounds.specs.Steps.{Picked}
 
 no_model : {A : Type 0} (o : Outcome) → is_model o ≡ false → (w : Way) → o ≡ model w → A
@@ -81,7 +81,7 @@ module _ {p : Problem} {force : ℕ → Bool} {n : ℕ} (steps : ℕ) {T : Table
   -- a conflict, by the clause that the code adds
   module _ {g : ℕ} {E : List Path} {ls : List ℕ} (e : finds p force steps (known T R) w ≡ false_goal g E)
       (c : conflict_clause T (conflict p T w g E) ≡ ls) (long : length (conflict p T w g E).choices + 1 ≡ length ls) {M' : Meaning} where
-    pub recorded_turn : length ls + 1 ≤ M.left → Extended M M' 0 (ls ∷ []) → Goes_on p force n steps (known T R) M₀ t M' one_recorded
+    pub recorded_turn : length ls + 1 ≤ M.left → Extended M M' 0 (ls ∷ []) → GoesOn p force n steps (known T R) M₀ t M' one_recorded
     recorded_turn l x =
         let leaves = pk.same.leaves in
         record {

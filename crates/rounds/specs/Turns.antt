@@ -19,7 +19,7 @@ abbrev pub known : Table → List Conflict → Known
 known T R = record { table = T; conflicts = R }
 
 -- the search goes on: after a round, from X' and M', and what comes then counts for it with the round added by `add`
-pub record Goes_on (p : Problem) (force : ℕ → Bool) (n steps : ℕ) (X : Known) (M : Meaning) (t' : Code) (M' : Meaning) (add : Told → Told) : Type 0 where
+pub record GoesOn (p : Problem) (force : ℕ → Bool) (n steps : ℕ) (X : Known) (M : Meaning) (t' : Code) (M' : Meaning) (add : Told → Told) : Type 0 where
   pub now_known : Known
   pub stands : Stands p t' now_known.table M'.count
   pub more : (k : ℕ) (a : Told) (X'' : Known) (M'' : Meaning) → Runs p force n steps k now_known M' a X'' M''
@@ -35,8 +35,8 @@ pub record Closes (p : Problem) (force : ℕ → Bool) (n steps : ℕ) (X : Know
 
 abbrev pub TurnedBy : Problem → (ℕ → Bool) → ℕ → ℕ → Known → Meaning → Code → Meaning → List (Option Case) → Turn → Type 0
 TurnedBy p force n steps X M t' M' cases (Closed o) = Closes p force n steps X M t' M' cases o
-TurnedBy p force n steps X M t' M' cases Recorded = Goes_on p force n steps X M t' M' one_recorded
-TurnedBy p force n steps X M t' M' cases Opened = Goes_on p force n steps X M t' M' one_opened
+TurnedBy p force n steps X M t' M' cases Recorded = GoesOn p force n steps X M t' M' one_recorded
+TurnedBy p force n steps X M t' M' cases Opened = GoesOn p force n steps X M t' M' one_opened
 
 pub record Turned (p : Problem) (force : ℕ → Bool) (n steps : ℕ) (M : Meaning) (t t' : Code) (M' : Meaning) (cases : List (Option Case)) (r : Turn) : Type 0 where
   pub goes : (T : Table) (R : List Conflict) → Stands p t T M.count → TurnedBy p force n steps (known T R) M t' M' cases r

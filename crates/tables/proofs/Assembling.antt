@@ -15,7 +15,7 @@ use Rattle.records.specs.declared.reader.Reader.{Reader}
 use Rattle.tables.specs.declared.filling.Counts.{Counts}
 use Rattle.records.specs.Readers.{ahead_of}
 use Rattle.tables.specs.Tabled.{places_of, mark_at, functions_start, unknowns_start, goals_start, Inside, function_in, Tabled}
-use Rattle.tables.specs.Sections.{Section, Types-held, FunctionsHeld, UnknownsHeld, GoalsHeld}
+use Rattle.tables.specs.Sections.{Section, TypesHeld, FunctionsHeld, UnknownsHeld, GoalsHeld}
 use Rattle.tables.proofs.Exactness.{after_goals, after_unknowns, after_functions, after_types, short_enough, end_sound, within_limits}
 use Rattle.records.proofs.Passed.{place_after}
 
@@ -121,7 +121,7 @@ module _ (bs : List ℕ) (short : length bs ≤ 16384) (r₀ : Reader) (whole : 
             bytes_of_goals = s₃.same ∙ s₂.same ∙ bytes_of_functions
 
             pub tabled : {types : List Datatype} {functions : List Callable} {unknowns : List ℕ} {goals : List Span} (n : Counts) →
-                Types-held r₀.at types n.types ts → FunctionsHeld r₁.bytes.now r₁.at functions n.functions fs → UnknownsHeld unknowns n.unknowns us →
+                TypesHeld r₀.at types n.types ts → FunctionsHeld r₁.bytes.now r₁.at functions n.functions fs → UnknownsHeld unknowns n.unknowns us →
                 GoalsHeld r₃.bytes.now r₃.at goals n.goals gs → n.start ≡ r₂.at → Tabled bs all_read types functions unknowns goals n
             tabled {types} {functions} {unknowns} {goals} n h₁ h₂ h₃ h₄ place =
                 let k₂ = subst (λ p. FunctionsHeld bs p functions n.functions fs) at_functions (subst (λ b. FunctionsHeld b r₁.at functions n.functions fs) bytes_of_functions h₂) in

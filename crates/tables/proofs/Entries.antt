@@ -11,7 +11,7 @@ use Rattle.records.specs.Raw.{RawFunction, write_function, write_goal}
 use Rattle.records.specs.Next.{lists_in, Lists}
 use Rattle.tables.specs.Tabled.{places_of, mark_at, body_at, term_at, part_in, function_in, Inside}
 use Rattle.records.proofs.Nexts.{function_long}
-use Rattle.tables.specs.Sections.{Types-held, FunctionsHeld, UnknownsHeld, GoalsHeld}
+use Rattle.tables.specs.Sections.{TypesHeld, FunctionsHeld, UnknownsHeld, GoalsHeld}
 
 pub places_push : {A : Type 0} (g : ℕ → A → ℕ) (w : A → List ℕ) (p : ℕ) (xs : List A) (x : A) →
     places_of g w p (xs ++ x ∷ []) ≡ places_of g w p xs ++ g (p + length (concat w xs)) x ∷ []
@@ -33,7 +33,7 @@ module _ {T : Type 0} (table : List T) (n : ℕ) (t : T) (low : n < length table
       (subst P (sym (get_or-set_same table n t d low)) p) k l
 
 pub types_push : {p : ℕ} {table : List Datatype} {n : ℕ} {xs : List (List (List ℕ))} (x : List (List ℕ)) (t : Datatype) →
-    Types-held p table n xs → n < length table → cases_in t ≡ x → t.at ≡ p + length (concat encode_type xs) → Types-held p (set table n t) (n + 1) (xs ++ x ∷ [])
+    TypesHeld p table n xs → n < length table → cases_in t ≡ x → t.at ≡ p + length (concat encode_type xs) → TypesHeld p (set table n t) (n + 1) (xs ++ x ∷ [])
 types_push {p} {table} {n} {xs} x t h low e f =
     record {
       long = ap (λ k. k + 1) h.long ∙ add_assoc 1 (length xs) 1 ∙ ap (λ k. 1 + k) (sym (length_push xs x));

@@ -19,7 +19,7 @@ pub record Section {A : Type 0} (one : ℕ → List ℕ → ℕ → Result (Read
   pub front : ahead_of before ≡ concat w xs ++ ahead_of after
 
 -- In these, the first n entries of the table hold the records xs, of which the first stands at p.
-pub record Types-held (p : ℕ) (table : List Datatype) (n : ℕ) (xs : List (List (List ℕ))) : Type 0 where
+pub record TypesHeld (p : ℕ) (table : List Datatype) (n : ℕ) (xs : List (List (List ℕ))) : Type 0 where
   pub long : n ≡ 1 + length xs
   pub cases : map cases_in (take n table) ≡ bool ∷ xs
   pub marks : map (λ d. d.at) (take n table) ≡ 0 ∷ places_of mark_at encode_type p xs

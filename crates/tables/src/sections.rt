@@ -7,7 +7,7 @@ ghost use Rattle.records.specs.Reading.{many, type_of, function_of, byte_of, par
 ghost use Rattle.records.specs.Next.{Lists};
 ghost use Rattle.records.specs.Readers.{ahead_of};
 ghost use Rattle.records.specs.Handed.{cases_held, function_held};
-ghost use Rattle.tables.specs.Sections.{Section, Filled, Types-held, FunctionsHeld, UnknownsHeld, GoalsHeld};
+ghost use Rattle.tables.specs.Sections.{Section, Filled, TypesHeld, FunctionsHeld, UnknownsHeld, GoalsHeld};
 
 use records::reader::{FunctionRecord, Reader, TypeRecord};
 use syntax::faults::Fault;
@@ -80,7 +80,7 @@ fn callable(item: FunctionRecord) -> Callable
 // Type 0 is Bool, which has no record.
 pub(crate) fn fill_types(reader: &mut Reader, types: &mut [Datatype]) -> Result<usize, Fault>
     requires { 32 ≤ length types.old }
-    ensures { MatchResult result (λ n. Filled (Section type_of encode_type 0x44 0x54 31 reader.old reader.new) (Types-held reader.old.at types.new n)) (λ e. many type_of 0x44 0x54 31 (ahead_of reader.old) reader.old.at ≡ Err e) }
+    ensures { MatchResult result (λ n. Filled (Section type_of encode_type 0x44 0x54 31 reader.old reader.new) (TypesHeld reader.old.at types.new n)) (λ e. many type_of 0x44 0x54 31 (ahead_of reader.old) reader.old.at ≡ Err e) }
 {
     types[0] = BOOL;
     let mut n: usize = 1;

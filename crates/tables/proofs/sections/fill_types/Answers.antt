@@ -10,7 +10,7 @@ use Rattle.syntax.specs.Problems.{concat}
 use Rattle.records.specs.Reading.{type_of}
 use Rattle.records.specs.Next.{next}
 use Rattle.records.specs.Readers.{ahead_of, Hands}
-use Rattle.tables.specs.Sections.{Section, Types-held}
+use Rattle.tables.specs.Sections.{Section, TypesHeld}
 use Rattle.records.proofs.Passed.{place_after}
 use Rattle.tables.proofs.Turns.{had_room, upto_none, upto_more, upto_refused, upto_all}
 use Rattle.tables.proofs.Entries.{types_push}
@@ -25,7 +25,7 @@ bool_type = record { at = 0; count = 2; constructors = replicate 16 no_types }
 pub loop-item-init : goal.loop-item-init
 loop-item-init c =
     let some : 0 < length c.args.types.now = omega arith in
-    let held : Types-held c.args.reader.now.at (set c.args.types.now 0 bool_type) 1 []
+    let held : TypesHeld c.args.reader.now.at (set c.args.types.now 0 bool_type) 1 []
     = record {
       long = refl;
       cases = ap (map cases_in) (take_more_set c.args.types.now 0 bool_type some);
