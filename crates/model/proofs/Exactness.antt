@@ -1,15 +1,15 @@
 -- Bytes are read exactly if they write a model: what was read is written there, and what is written is read.
-use Rattle.std.proofs.Common.{◌≡◌, ℕ, zero, suc, ◌+◌, ◌-◌, ◌<◌, ◌≤◌, Bool, true, false, cond, ◌&&◌, eqb, ltb, leb, List, [], ◌∷◌, ◌++◌, length, get_or, drop, Some, None, Ok, Err, Option, Result, sym, refl, ap, ◌∙◌, subst, inl, inr, append_assoc, arith, length-append, length-drop}
+use Rattle.std.proofs.Common.{◌≡◌, ℕ, zero, suc, ◌+◌, ◌≤◌, Bool, true, false, cond, ◌&&◌, eqb, ltb, leb, List, [], ◌∷◌, ◌++◌, length, get_or, drop, Some, None, Ok, Err, Option, Result, sym, refl, ap, ◌∙◌, append_assoc, arith, length-append, length-drop}
 use Rattle.std.proofs.lemmas.List.{drop-drop, drop_at}
-use Rattle.std.proofs.lemmas.Bool.{cases_Bool, ltb-true, ltb-false, lt-ltb, le-ltb, eqb-true, eq-eqb, leb-true, le-leb, and_parts, and_from}
+use Rattle.std.proofs.lemmas.Bool.{ltb-false, lt-ltb, le-ltb, eqb-true, eq-eqb, leb-true, le-leb, and_parts, and_from}
 use Rattle.syntax.specs.declared.faults.Fault.{Fault}
 use Rattle.syntax.specs.declared.faults.Reason.TheVariants.{TooLong, NoMark, BadTerm, BytesAfter}
 use Rattle.syntax.specs.Faults.{fault}
-use Rattle.syntax.specs.Typing.{Sig, constructors, arguments}
-use Rattle.syntax.specs.Problems.{Problem, sig_of}
-use Rattle.model.specs.Partial.{Partial, open_part, built, Partials, p[], ◌p∷◌, OfType, OfTypes, written, all_written, encode_from, Writes}
-use Rattle.model.specs.Reading.{and_then, there, right, ends, top_of, end_by, value_end, marked, start_of, preceded, places_from, reading}
-use Rattle.model.specs.Exact.{ModelIn, ReadIn, ReadingIsExact}
+use Rattle.syntax.specs.Typing.{Sig, arguments}
+use Rattle.syntax.specs.Problems.{sig_of}
+use Rattle.model.specs.Partial.{Partial, open_part, built, Partials, p[], ◌p∷◌, OfType, OfTypes, written, all_written, encode_from}
+use Rattle.model.specs.Reading.{and_then, there, right, ends, top_of, end_by, value_end, marked, start_of, preceded, places_from}
+use Rattle.model.specs.Exact.{ReadingIsExact}
 use Rattle.model.proofs.Ends.{drop_none, value_open, value_built}
 use Rattle.model.proofs.Bytes.{was_ok, cond_ok, was_there, is_there, is_right, at_byte, three, TopAt, top_sound, top_open, top_built}
 

@@ -1,5 +1,5 @@
 -- Where the arguments of a value start, one at a time.
-use Rattle.std.proofs.Common.{◌≡◌, ℕ, zero, suc, ◌+◌, ◌<◌, ◌≤◌, List, [], ◌∷◌, length, get_or, take, drop, sym, refl, ap, ◌∙◌, subst, arith, length-take, get_or-take}
+use Rattle.std.proofs.Common.{◌≡◌, ℕ, suc, ◌+◌, ◌<◌, ◌≤◌, List, [], ◌∷◌, length, get_or, take, drop, sym, refl, ap, ◌∙◌, arith, length-take, get_or-take}
 use Rattle.syntax.specs.Typing.{Sig}
 use Rattle.model.specs.Reading.{value_end}
 use Rattle.model.specs.Places.{or_stay, starts_from}

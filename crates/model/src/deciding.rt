@@ -7,13 +7,13 @@ ghost use Rattle.model.specs.Models.{Read};
 
 use crate::declares::Declares;
 use crate::model::Model;
-use crate::reading::{read_places, value_end};
+use crate::value_reading::{read_places, value_end};
 use judge::decides::{Choice, Decides};
 use syntax::faults::{Fault, Reason};
 
 // Reads model bytes: a value for each unknown of the problem in order, and nothing after.
 pub fn read_model<'a, P: Declares>(problem: &'a P, bytes: &'a [u8]) -> Result<Model<'a, P>, Fault>
-    ensures { Read (declares problem.now) problem.now bytes.now result }
+    ensures { Read (P.declares problem.now) problem.now bytes.now result }
 {
     if bytes.len() > 16384 {
         return Err(Reason::TooLong.at(16384));
@@ -34,7 +34,7 @@ fn next_start<P: Declares>(problem: &P, bytes: &[u8], ty: u8, place: usize) -> u
     requires short { length bytes.now ≤ 16384 }
     requires low { place ≤ length bytes.now }
     ensures within { result ≤ length bytes.now }
-    ensures exact { result ≡ or_stay place (value_end (length bytes.now) (sig_of (declares problem.now)) bytes.now 0 ty place) }
+    ensures exact { result ≡ or_stay place (value_end (length bytes.now) (sig_of (P.declares problem.now)) bytes.now 0 ty place) }
 {
     match value_end(problem, bytes, 0, ty, place) {
         Ok(end) => end,
@@ -55,7 +55,7 @@ fn write_starts<P: Declares>(
     requires room { length types.now ≤ length children.old }
     requires low { place ≤ length bytes.now }
     ensures same { (i : ℕ) → i < next → slice_index children.new i ≡ slice_index children.old i }
-    ensures starts { next ≤ length types.now → drop next (take (length types.now) children.new) ≡ starts_from (sig_of (declares problem.now)) bytes.now (drop next types.now) place }
+    ensures starts { next ≤ length types.now → drop next (take (length types.now) children.new) ≡ starts_from (sig_of (P.declares problem.now)) bytes.now (drop next types.now) place }
 {
     if next >= types.len() {
         return;

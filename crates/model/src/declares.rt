@@ -1,6 +1,6 @@
 // What the reader of values asks of a problem.
 ghost use Rattle.std.specs.Prelude.{◌≡◌, ◌≤◌, length};
-ghost use Rattle.syntax.specs.Typing.{constructors as constructors-of, arguments as arguments-of};
+ghost use Rattle.syntax.specs.Typing.{constructors as constructors_of, arguments as arguments_of};
 ghost use Rattle.syntax.specs.Problems.{Problem as Meaning, sig_of};
 ghost use Rattle.problem.specs.Meant.{meant};
 
@@ -12,11 +12,11 @@ pub trait Declares {
 
     // How many constructors a type has.
     fn constructor_count(&self, ty: u8) -> u8
-        ensures { result ≡ constructors-of (sig_of (declares self.now)) ty };
+        ensures { result ≡ constructors_of (sig_of (declares self.now)) ty };
 
     // The types of a constructor's arguments.
     fn argument_types(&self, ty: u8, constructor: u8) -> &[u8]
-        ensures is { result.now ≡ arguments-of (sig_of (declares self.now)) ty constructor }
+        ensures is { result.now ≡ arguments_of (sig_of (declares self.now)) ty constructor }
         ensures few { length result.now ≤ 6 };
 
     // The types of the unknowns.

@@ -5,4 +5,4 @@ pub mod deciding;
 pub mod declares;
 pub mod laws;
 pub mod model;
-pub mod reading;
+pub mod value_reading;

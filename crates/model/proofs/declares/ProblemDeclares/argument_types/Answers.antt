@@ -1,4 +1,4 @@
-use Rattle.std.proofs.Common.{◌≡◌, ℕ, ◌≤◌, List, length, sym, subst}
+use Rattle.std.proofs.Common.{ℕ, ◌≤◌, List, length, sym, subst}
 use Rattle.judge.proofs.Limits.{lawful, arguments_few}
 use Rattle.model.proofs.declares.ProblemDeclares.argument_types.Goals as goal
 

@@ -1,4 +1,4 @@
-use Rattle.std.proofs.Common.{◌≡◌, ℕ, ◌≤◌, List, length, sym, subst}
+use Rattle.std.proofs.Common.{ℕ, ◌≤◌, List, length, sym, subst}
 use Rattle.judge.proofs.Limits.{lawful}
 use Rattle.model.proofs.declares.ProblemDeclares.unknown_types.Goals as goal
 

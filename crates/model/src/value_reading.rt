@@ -28,7 +28,7 @@ fn read_top<P: Declares>(
     place: usize,
 ) -> Result<Option<u8>, Fault>
     requires { place ≤ 16384 }
-    ensures exact { result ≡ top_of (sig_of (declares problem.now)) bytes.now mark ty place }
+    ensures exact { result ≡ top_of (sig_of (P.declares problem.now)) bytes.now mark ty place }
     ensures within { Topped place (length bytes.now) result }
 {
     let tag = byte_at(bytes, mark, place)?;
@@ -60,7 +60,7 @@ pub fn value_end<P: Declares>(
     requires short { length bytes.now ≤ 16384 }
     requires low { place ≤ length bytes.now }
     ensures within { Within place (length bytes.now) result }
-    ensures exact { (n : ℕ) → length bytes.now ≤ place + n → result ≡ value_end n (sig_of (declares problem.now)) bytes.now mark ty place }
+    ensures exact { (n : ℕ) → length bytes.now ≤ place + n → result ≡ value_end n (sig_of (P.declares problem.now)) bytes.now mark ty place }
 {
     match read_top(problem, bytes, mark, ty, place)? {
         None => Ok(place + 1),
@@ -89,7 +89,7 @@ fn values_end<P: Declares>(
     requires few { length types.now ≤ 6 }
     requires low { place ≤ length bytes.now }
     ensures within { Within place (length bytes.now) result }
-    ensures exact { (n : ℕ) → length bytes.now ≤ place + n → result ≡ ends (value_end n (sig_of (declares problem.now)) bytes.now mark) (drop next types.now) place }
+    ensures exact { (n : ℕ) → length bytes.now ≤ place + n → result ≡ ends (value_end n (sig_of (P.declares problem.now)) bytes.now mark) (drop next types.now) place }
 {
     if next >= types.len() {
         return Ok(place);
@@ -128,7 +128,7 @@ pub fn read_places<P: Declares>(
     requires low { place ≤ length bytes.now }
     requires from { number ≤ length types.now }
     ensures same { (i : ℕ) → i < number → slice_index roots.new i ≡ slice_index roots.old i }
-    ensures placed { Placed (places_from (sig_of (declares problem.now)) bytes.now number (drop number types.now) place) (drop number (take (length types.now) roots.new)) result }
+    ensures placed { Placed (places_from (sig_of (P.declares problem.now)) bytes.now number (drop number types.now) place) (drop number (take (length types.now) roots.new)) result }
 {
     if number >= types.len() {
         if place < bytes.len() {
