@@ -1,7 +1,6 @@
 -- A replay is accepted where no refusal holds; its unknowns are those of the model that was read.
-use Rattle.std.proofs.Common.{◌≡◌, ℕ, ◌*◌, ◌≤◌, Bool, true, cond, ◌&&◌, eqb, leb, List, length, take, Ok, Err, Result, sym, refl, ap, ◌∙◌, subst}
+use Rattle.std.proofs.Common.{◌≡◌, ℕ, ◌*◌, ◌≤◌, Bool, cond, eqb, leb, List, length, take, Ok, Err, Result, ap, ◌∙◌}
 use Rattle.std.proofs.lemmas.Bool.{le-leb, eq-eqb, and_from}
-use Rattle.syntax.specs.declared.faults.Fault.{Fault}
 use Rattle.syntax.specs.Problems.{Problem as Meaning}
 use Rattle.problem.specs.declared.problem.Problem.{Problem}
 use Rattle.problem.specs.Meant.{meant}

@@ -21,7 +21,7 @@ fn judge_all<D: Decides>(
 )
     requires room { 6 * steps ≤ length memory.old }
     requires long { length answer.old ≡ length (meant problem.now).goals }
-    ensures { (g : ℕ) → g < length answer.new → slice_index answer.new g ≡ answer_of (meant problem.now) (unknowns decider.now) steps g }
+    ensures { (g : ℕ) → g < length answer.new → slice_index answer.new g ≡ answer_of (meant problem.now) (D.unknowns decider.now) steps g }
 {
     for goal in 0..answer.len() {
         let mut because = Explanation::nothing();

@@ -10,4 +10,4 @@ loop-goal-preserved g c =
     below_more (λ (k : ℕ). get_or (set c.loop-goal.answer c.loop-goal.goal c.byte.result) k 0
     ≡ answer_of (meant c.args.problem.now) (g.D.Decides.unknowns c.args.decider.now) c.args.steps k) c.loop-goal.goal
     (λ k h. let ne : k ≢ c.loop-goal.goal = omega arith in get_or-set_other c.loop-goal.answer c.loop-goal.goal k c.byte.result 0 ne ∙ c.loop-goal.invariant k h)
-    (get_or-set_same c.loop-goal.answer c.loop-goal.goal c.byte.result 0 lt ∙ c.byte.ensures ∙ ap byte_of c.judge-goal-judgement.ensures.judged)
+    (get_or-set_same c.loop-goal.answer c.loop-goal.goal c.byte.result 0 lt ∙ c.byte.ensures ∙ ap byte_of c.judge_goal-judgement.ensures.judged)

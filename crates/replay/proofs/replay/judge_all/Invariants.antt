@@ -1,4 +1,4 @@
-use Rattle.std.proofs.Common.{◌≡◌, ℕ, ◌<◌, length, get_or}
+use Rattle.std.proofs.Common.{◌≡◌, ℕ, ◌<◌, get_or}
 use Rattle.problem.specs.Meant.{meant}
 use Rattle.replay.specs.Replays.{answer_of}
 use Rattle.replay.proofs.replay.judge_all.Given as goal
