@@ -52,14 +52,14 @@ pub record Stands (p : Problem) (t : Code) (T : Table) (count : ℕ) : Type 0 wh
   pub full : length p.goals + taken p T ≡ count
 
 -- The cases that the way w gives the unknowns of T, as the code has them: none for what is not opened.
-abbrev pub case_of : Problem → Table → (ℕ → ℕ) → ℕ → ℕ → Case → Type 0
-case_of p T kids i c x =
+abbrev pub CaseOf : Problem → Table → (ℕ → ℕ) → ℕ → ℕ → Case → Type 0
+CaseOf p T kids i c x =
     (x.constructor ≡ c) × (x.count ≡ arity p (at T i) c) × (x.kids ≡ kids i + offset (cases_at p (at T i)) c)
 
 abbrev pub CaseAs : Problem → Table → (ℕ → ℕ) → ℕ → Maybe ℕ → Option Case → Type 0
 CaseAs p T kids i none o = o ≡ None
 CaseAs p T kids i (some c) None = ⊥
-CaseAs p T kids i (some c) (Some x) = case_of p T kids i c x
+CaseAs p T kids i (some c) (Some x) = CaseOf p T kids i c x
 
 -- `cases` has the case that w gives each unknown of the table
 pub record DecidesAs (p : Problem) (t : Code) (T : Table) (w : Way) (cases : List (Option Case)) : Type 0 where
