@@ -1,6 +1,6 @@
 // What a problem says, each question answered from the tables for every number that can be asked.
 ghost use Rattle.std.specs.Prelude.{◌≡◌, ◌+◌, ◌<◌, length, slice_index, slice_index_or};
-ghost use Rattle.syntax.specs.Typing.{constructors as constructors-of, arguments as arguments-of, params_of, result_of};
+ghost use Rattle.syntax.specs.Typing.{constructors as constructors_of, arguments as arguments_of, params_of, result_of};
 ghost use Rattle.syntax.specs.Tables.{declared_in};
 ghost use Rattle.syntax.specs.Least.{least_of, need_of};
 ghost use Rattle.ends.specs.Ends.{hop};
@@ -49,14 +49,14 @@ impl Problem {
 
     // How many constructors a type has.
     pub fn constructors(&self, t: u8) -> u8
-        ensures { result ≡ constructors-of (sig self.now) t }
+        ensures { result ≡ constructors_of (sig self.now) t }
     {
         cases(self.declared(), t)
     }
 
     // The types of a constructor's arguments.
     pub fn arguments(&self, t: u8, c: u8) -> &[u8]
-        ensures { result.now ≡ arguments-of (sig self.now) t c }
+        ensures { result.now ≡ arguments_of (sig self.now) t c }
     {
         if c >= self.constructors(t) {
             return &[];
