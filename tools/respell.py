@@ -49,7 +49,6 @@ def files(root):
 def defined(text):
     """The names that a file of specs/ or proofs/ defines, each with whether it is a type, and whether a field."""
     lines = text.split("\n")
-    inside = None
     for i, line in enumerate(lines):
         code = line.split("--")[0]
         m = HEAD.match(code)

@@ -1,4 +1,4 @@
--- No place is named exactly if every type number outside terms names a type: list by list, from the meaning of `first-from`.
+-- No place is named exactly if every type number outside terms names a type: list by list, from the meaning of `first_from`.
 use Rattle.std.proofs.Common.{◌≡◌, ℕ, ◌+◌, ◌<◌, Bool, true, false, cond, ltb, List, [], ◌∷◌, ◌++◌, length, Some, None, Option, sym, refl, ap, ◌∙◌, arith, ltb-true, lt-ltb}
 use Rattle.syntax.specs.Problems.{Each, encode_type}
 use Rattle.records.specs.Raw.{Raw, RawFunction, write_function}
