@@ -1,10 +1,10 @@
 -- The reading of a term, a byte at a time: the term, or the place of the first byte that fails or lacks. Assumes nothing.
-use Rattle.std.specs.Prelude.{ℕ, zero, suc, ◌+◌, Bool, true, false, cond, ◌&&◌, List, [], ◌∷◌, ◌++◌, map, length, Ok, Err, Result, ◌==◌, nat_le, nat_lt, slice_index}
+use Rattle.std.specs.Prelude.{ℕ, zero, suc, ◌+◌, Bool, true, false, cond, ◌&&◌, List, [], ◌∷◌, ◌++◌, map, length, Ok, Err, Result, ◌==◌, nat_le, nat_lt}
 use Rattle.syntax.specs.declared.faults.Fault.{Fault}
 use Rattle.syntax.specs.declared.faults.Reason.TheVariants.{BadTerm}
 use Rattle.syntax.specs.Faults.{fault}
 use Rattle.syntax.specs.Terms.{Term, Terms, var, unknown, con, call, case, both, not, equal, t[], ◌t∷◌}
-use Rattle.syntax.specs.Typing.{Sig, Want, want, cases_of, arguments, params_of, result_of, each_of, branches_of}
+use Rattle.syntax.specs.Typing.{Sig, Want, want, stands, cases_of, arguments, params_of, result_of, each_of, branches_of}
 use Rattle.reading.specs.declared.parts.Tag.{Tag}
 use Rattle.reading.specs.declared.parts.Tag.TheVariants.{Variable, Unknown, Constructor, Call, Case, And, Not, Equal, Other}
 use Rattle.reading.specs.declared.parts.Part.{Part}
@@ -40,10 +40,6 @@ begins ty And = ty == 0
 begins ty Not = ty == 0
 begins ty Equal = ty == 0
 begins ty Other = false
-
--- is x the i-th of a list?
-abbrev pub stands : List ℕ → ℕ → ℕ → Bool
-stands s i x = nat_lt i (length s) && slice_index s i == x
 
 -- may the byte b stand at this part of a term of the type ty, with variables of the types s?
 -- No term begins where over 64 variables are in scope.

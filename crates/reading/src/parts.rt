@@ -29,11 +29,11 @@ pub enum Part {
     SidesType,
 }
 
-impl Tag {
+impl From<u8> for Tag {
+    ghost from_gives = { λ b tag. tag ≡ tag_of b };
+
     // What a first byte says.
-    pub fn of(b: u8) -> Tag
-        ensures { result ≡ tag_of b }
-    {
+    fn from(b: u8) -> Tag {
         match b {
             0 => Tag::Variable,
             1 => Tag::Unknown,

@@ -1,5 +1,5 @@
--- The numbers of the reasons for which bytes are refused. Assumes nothing.
-use Rattle.std.specs.Prelude.{ℕ}
+-- The numbers of the reasons for which bytes are refused, and how faults are printed. Assumes nothing.
+use Rattle.std.specs.Prelude.{ℕ, List, ◌++◌, codes, decimal}
 use Rattle.syntax.specs.declared.faults.Reason.{Reason}
 use Rattle.syntax.specs.declared.faults.Reason.TheVariants.{TooLong, NoMark, PastEnd, BadCount, Undeclared, BadTerm, NoValue, BytesAfter}
 use Rattle.syntax.specs.declared.faults.Layer.{Layer}
@@ -29,3 +29,12 @@ layer_of BytesAfter = Records
 
 abbrev pub fault : Reason → ℕ → Fault
 fault r p = record { reason = r; place = p; layer = layer_of r }
+
+-- what is printed of a layer, and of a fault
+abbrev pub layer_text : Layer → List ℕ
+layer_text Records = codes "records"
+layer_text Types = codes "types"
+layer_text Terms = codes "terms"
+
+abbrev pub fault_text : Fault → List ℕ
+fault_text f = decimal (number_of f.reason) ++ codes " at " ++ decimal f.place

@@ -1,5 +1,5 @@
 -- Which terms have a type, given what a problem declares. Assumes nothing.
-use Rattle.std.specs.Prelude.{◌≡◌, List, [], ◌∷◌, ◌++◌, map, ℕ, ◌<◌, ◌≤◌, length, get_or}
+use Rattle.std.specs.Prelude.{◌≡◌, List, [], ◌∷◌, ◌++◌, map, ℕ, ◌<◌, ◌≤◌, Bool, ◌&&◌, ◌==◌, nat_lt, length, get_or, slice_index}
 use Rattle.syntax.specs.Terms.{Term, Terms, var, unknown, con, call, case, both, not, equal, t[], ◌t∷◌}
 
 -- what a function takes and gives
@@ -50,9 +50,12 @@ each_of s tys = map (want s) tys
 abbrev pub branches_of : List ℕ → ℕ → List (List ℕ) → List Want
 branches_of s ty cs = map (λ tys. want (s ++ tys) ty) cs
 
--- the i-th of a list is x
+-- the i-th of a list is x; and the same as a test
 abbrev pub Stands : List ℕ → ℕ → ℕ → Type 0
 Stands s i x = (i < length s) × (get_or s i 0 ≡ x)
+
+abbrev pub stands : List ℕ → ℕ → ℕ → Bool
+stands s i x = nat_lt i (length s) && slice_index s i == x
 
 abbrev mutual
   pub Typed : Sig → List ℕ → ℕ → Term → Type 0

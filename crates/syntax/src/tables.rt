@@ -1,4 +1,8 @@
-// Tables of what a problem declares.
+// Tables of what a problem declares, and what they say of a type, a constructor or a function.
+// Of a number that names none they say nothing. No entry is copied, and a count past its array's end is cut to it.
+ghost use Rattle.std.specs.Prelude.{◌≡◌, ◌≤◌, ◌<◌, ◌&&◌, length, take, map, ◌==◌, nat_lt};
+ghost use Rattle.syntax.specs.Typing.{cases_of, arguments, params_of, result_of, stands};
+ghost use Rattle.syntax.specs.Tables.{listed, cases_in, declared_in};
 
 // At most six types: the arguments of a constructor, or the parameters of a function.
 #[derive(Clone, Copy)]
@@ -37,4 +41,135 @@ pub struct Signature<'a> {
     pub types: &'a [Datatype],
     pub functions: &'a [Callable],
     pub unknowns: &'a [u8],
+}
+
+// The first `count` of some items, or all of them where there are fewer.
+fn front<T>(items: &[T], count: u8) -> &[T]
+    ensures { result.now ≡ take count items.now }
+{
+    items.get(..usize::from(count)).unwrap_or(items)
+}
+
+impl TypeList {
+    pub const EMPTY: TypeList = TypeList {
+        count: 0,
+        types: [0; 6],
+    };
+
+    // The list of these types.
+    pub fn new(types: &[u8]) -> TypeList
+        requires { length types.now ≤ 6 }
+        ensures { listed result ≡ types.now }
+    {
+        let mut list = [0; 6];
+        list[..types.len()].copy_from_slice(types);
+        TypeList {
+            count: types.len() as u8,
+            types: list,
+        }
+    }
+
+    // The types of the list.
+    pub fn types(&self) -> &[u8]
+        ensures is { result.now ≡ listed self.now }
+        ensures few { length result.now ≤ 6 }
+    {
+        front(&self.types, self.count)
+    }
+}
+
+impl Datatype {
+    pub const EMPTY: Datatype = Datatype {
+        at: 0,
+        count: 0,
+        constructors: [TypeList::EMPTY; 16],
+    };
+
+    // The constructors of the type, each by the types of its arguments.
+    pub fn cases(&self) -> &[TypeList]
+        ensures is { map listed result.now ≡ cases_in self.now }
+        ensures few { length result.now ≤ 16 }
+    {
+        front(&self.constructors, self.count)
+    }
+}
+
+impl Span {
+    pub const EMPTY: Span = Span { start: 0, len: 0 };
+}
+
+impl Callable {
+    pub const EMPTY: Callable = Callable {
+        at: 0,
+        params: TypeList::EMPTY,
+        result: 0,
+        body: Span::EMPTY,
+    };
+}
+
+impl<'a> Signature<'a> {
+    // Is t the number of a type?
+    pub fn declares(self, t: u8) -> bool
+        ensures { result ≡ nat_lt t (length (declared_in self.entry).types) }
+    {
+        usize::from(t) < self.types.len()
+    }
+
+    // The constructors of a type, each by the types of its arguments.
+    pub fn cases(self, t: u8) -> &'a [TypeList]
+        ensures is { map listed result.now ≡ cases_of (declared_in self.entry) t }
+        ensures few { length result.now ≤ 16 }
+    {
+        match self.types.get(usize::from(t)) {
+            Some(datatype) => datatype.cases(),
+            None => &[],
+        }
+    }
+
+    // How many constructors a type has.
+    pub fn case_count(self, t: u8) -> u8
+        ensures { result ≡ length (cases_of (declared_in self.entry) t) }
+    {
+        self.cases(t).len() as u8
+    }
+
+    // The argument types of a constructor.
+    pub fn arguments(self, t: u8, c: u8) -> &'a [u8]
+        ensures is { result.now ≡ arguments (declared_in self.entry) t c }
+        ensures few { length result.now ≤ 6 }
+    {
+        match self.cases(t).get(usize::from(c)) {
+            Some(list) => list.types(),
+            None => &[],
+        }
+    }
+
+    // The parameter types of a function.
+    pub fn params(self, f: u8) -> &'a [u8]
+        ensures is { result.now ≡ params_of (declared_in self.entry) f }
+        ensures few { length result.now ≤ 6 }
+    {
+        match self.functions.get(usize::from(f)) {
+            Some(function) => function.params.types(),
+            None => &[],
+        }
+    }
+
+    // Is f a function whose result has the type ty?
+    pub fn gives(self, f: u8, ty: u8) -> bool
+        ensures { result ≡ (nat_lt f (length (declared_in self.entry).functions) && result_of (declared_in self.entry) f == ty) }
+    {
+        self.functions
+            .get(usize::from(f))
+            .is_some_and(|function| function.result == ty)
+    }
+
+    // Is k an unknown of the type ty?
+    pub fn has_unknown(self, k: u8, ty: u8) -> bool
+        ensures { result ≡ stands (declared_in self.entry).unknowns k ty }
+    {
+        self.unknowns
+            .get(usize::from(k))
+            .is_some_and(|declared| *declared == ty)
+    }
 }
