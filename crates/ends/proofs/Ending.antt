@@ -1,14 +1,10 @@
 -- Where a term ends, from where its parts end, and so where each part stands. Assumes nothing.
-use Rattle.std.proofs.Common.{◌≡◌, ℕ, zero, suc, ◌+◌, ◌-◌, ◌<◌, ◌≤◌, cond, List, [], ◌∷◌, ◌++◌, length, get_or, drop, set, sym, refl, ap, ◌∙◌, subst, ⊎_elim, append_assoc, add-zero, arith, lt-ltb}
+use Rattle.std.proofs.Common.{◌≡◌, ℕ, zero, suc, ◌+◌, ◌<◌, ◌≤◌, cond, List, [], ◌∷◌, ◌++◌, length, get_or, drop, set, sym, refl, ap, ◌∙◌, subst, ⊎_elim, append_assoc, add-zero, arith, lt-ltb}
 use Rattle.std.proofs.lemmas.List.{drop-drop, drop_at, get_or-drop, length-append, length-drop, length-map, append-nil, get_or-set_same, get_or-set_other}
 use Rattle.std.proofs.lemmas.Bool.{cases_eq}
 use Rattle.syntax.specs.Terms.{Term, Terms, var, unknown, con, call, case, both, not, equal, t[], ◌t∷◌, encode, encodes}
 use Rattle.syntax.specs.Typing.{Sig, Want, want, Typed, AllTyped, each_of, branches_of, arguments, params_of, cases_of}
-use Rattle.ends.specs.Ends.{Ends, hop, hops, end_by, end_at, parts_in, wants_in, head_in, nth, StandsAt, EndsGiveParts}
-
-pub hops_step : (next : List ℕ) (m q : ℕ) → 0 < m → hops next m q ≡ hops next (m - 1) (hop next q)
-hops_step next zero q h = absurd (omega arith)
-hops_step next (suc m) q h = let e : m ≡ suc m - 1 = omega arith in ap (λ k. hops next k (hop next q)) e
+use Rattle.ends.specs.Ends.{Ends, hops, end_by, end_at, parts_in, wants_in, head_in, nth, StandsAt, EndsGiveParts}
 
 abbrev count : Terms → ℕ
 count t[] = 0

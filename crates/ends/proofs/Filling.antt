@@ -1,5 +1,5 @@
 -- The table of ends, filled from the right: each entry lies past its place, so it rests on later entries alone. Assumes nothing.
-use Rattle.std.proofs.Common.{◌≡◌, ℕ, zero, suc, ◌+◌, ◌-◌, ◌<◌, ◌≤◌, cond, ltb, List, length, get_or, set, sym, refl, ap, ◌∙◌, subst, ⊎_elim, arith}
+use Rattle.std.proofs.Common.{◌≡◌, ℕ, zero, suc, ◌+◌, ◌-◌, ◌<◌, ◌≤◌, cond, min, ltb, List, length, get_or, set, sym, refl, ap, ◌∙◌, subst, ⊎_elim, arith}
 use Rattle.std.proofs.lemmas.List.{length-set, length-replicate, get_or-set_same, get_or-set_other, get_or_past, ext_get_or}
 use Rattle.std.proofs.lemmas.Bool.{cases_eq, cond_both, ltb-true, ltb-false}
 use Rattle.reading.specs.declared.parts.Tag.{Tag}
@@ -117,6 +117,10 @@ agree_all sig bytes next a =
     let all : length bytes - 0 ≡ length bytes = omega arith in
     subst (λ k. next ≡ filled sig bytes k) all
     (ext_get_or 0 next (filled sig bytes (length bytes - 0)) a.long (λ q h. a.same q (omega arith)))
+
+pub min_at_most : (n e : ℕ) → min e n ≡ at_most n e
+min_at_most n e =
+    cond_both (ltb e n) e n (λ r. min e n ≡ r) (λ t. let low = ltb-true e n t in omega arith) (λ t. let past = ltb-false e n t in omega arith)
 
 at_most_is : (n e : ℕ) → e ≤ n → at_most n e ≡ e
 at_most_is n e h = cond_both (ltb e n) e n (λ r. r ≡ e) (λ t. refl) (λ t. let past = ltb-false e n t in omega arith)

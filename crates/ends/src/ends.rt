@@ -3,7 +3,6 @@ ghost use Rattle.std.specs.Prelude.{◌≡◌, ◌+◌, ◌^◌, ◌<◌, ◌≤
 ghost use Rattle.syntax.specs.Tables.{declared_in};
 ghost use Rattle.ends.specs.Ends.{Ends, head_of, parts_of, hop, hops, end_at, ends_of};
 
-use reading::lookup::{cases, constructor, parameters, size};
 use reading::parts::Tag;
 use syntax::tables::Signature;
 
@@ -23,9 +22,9 @@ fn parts(sig: Signature, tag: Tag, a: u8, b: u8) -> usize
     ensures { result ≡ parts_of (declared_in sig.entry) tag a b }
 {
     match tag {
-        Tag::Constructor => size(&constructor(sig, a, b)) as usize,
-        Tag::Call => size(&parameters(sig, a)) as usize,
-        Tag::Case => 1 + cases(sig, a) as usize,
+        Tag::Constructor => sig.arguments(a, b).len(),
+        Tag::Call => sig.params(a).len(),
+        Tag::Case => 1 + usize::from(sig.case_count(a)),
         Tag::And | Tag::Equal => 2,
         Tag::Not => 1,
         Tag::Variable | Tag::Unknown | Tag::Other => 0,
@@ -36,25 +35,21 @@ fn parts(sig: Signature, tag: Tag, a: u8, b: u8) -> usize
 fn at(bytes: &[u8], i: usize) -> u8
     ensures { result ≡ slice_index bytes.now i }
 {
-    if i < bytes.len() { bytes[i] } else { 0 }
+    bytes.get(i).copied().unwrap_or(0)
 }
 
 // The place after the term at q.
 fn past_one(next: &[u16], q: usize) -> usize
     ensures { result ≡ hop next.now q }
 {
-    if q < next.len() { next[q] as usize } else { q }
+    next.get(q).map_or(q, |end| usize::from(*end))
 }
 
 // The place after n terms of which the first stands at q, one after another.
 pub fn past(next: &[u16], q: usize, n: usize) -> usize
     ensures { result ≡ hops next.now n q }
 {
-    let mut place = q;
-    for i in 0..n {
-        place = past_one(next, place);
-    }
-    place
+    (0..n).fold(q, |place, _| past_one(next, place))
 }
 
 // The place after the term at p, from where its parts end.
@@ -62,7 +57,7 @@ fn end_of(bytes: &[u8], sig: Signature, next: &[u16], p: usize) -> usize
     requires { (p < length bytes.now) × (length bytes.now < 2 ^ 16) }
     ensures { result ≡ end_at (declared_in sig.entry) bytes.now next.now p }
 {
-    let tag = Tag::of(at(bytes, p));
+    let tag = Tag::from(at(bytes, p));
     past(
         next,
         p + head(tag),
@@ -78,14 +73,8 @@ pub fn fill_ends(bytes: &[u8], sig: Signature, next: &mut [u16])
     ensures exact { next.new ≡ ends_of (declared_in sig.entry) bytes.now }
     ensures ends { Ends (declared_in sig.entry) bytes.now next.new 0 }
 {
-    let mut p = bytes.len();
-    while p > 0 {
-        p -= 1;
+    for p in (0..bytes.len()).rev() {
         let end = end_of(bytes, sig, next, p);
-        next[p] = if end < bytes.len() {
-            end as u16
-        } else {
-            bytes.len() as u16
-        };
+        next[p] = end.min(bytes.len()) as u16;
     }
 }
