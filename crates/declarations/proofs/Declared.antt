@@ -1,5 +1,5 @@
 -- No place is named exactly if every type number outside terms names a type: list by list, from the meaning of `first_from`.
-use Rattle.std.proofs.Common.{◌≡◌, ℕ, ◌+◌, ◌<◌, Bool, true, false, cond, ltb, List, [], ◌∷◌, ◌++◌, length, Some, None, Option, sym, refl, ap, ◌∙◌, arith, ltb-true, lt-ltb}
+use Rattle.std.proofs.Common.{◌≡◌, ℕ, ◌+◌, ◌<◌, Bool, true, false, cond, ltb, List, [], ◌∷◌, ◌++◌, length, Some, None, Option, sym, refl, ap, ◌∙◌, ltb-true, lt-ltb}
 use Rattle.syntax.specs.Problems.{Each, encode_type}
 use Rattle.records.specs.Raw.{Raw, RawFunction, write_function}
 use Rattle.tables.specs.Tabled.{declared_by, functions_start, unknowns_start}
@@ -7,12 +7,9 @@ use Rattle.declarations.specs.Numbers.{Number, number, in_list, in_cases, in_typ
 use Rattle.declarations.specs.Laws.{AllDeclared, UndeclaredIsExact}
 use Rattle.declarations.proofs.First.{otherwise, first_joined}
 
-no_place : {A : Type 0} {q : ℕ} → ◌≡◌ {A = Option ℕ} (Some q) None → A
-no_place e = let z : ◌≡◌ {A = ℕ} 0 1 = cc in absurd (omega arith)
-
 none_of : (o r : Option ℕ) → otherwise o r ≡ None → (o ≡ None) × (r ≡ None)
 none_of None r e = (refl, e)
-none_of (Some p) r e = no_place e
+none_of (Some p) r e = cc
 
 both_none : (n : ℕ) (xs ys : List Number) → first_from n (xs ++ ys) ≡ None → (first_from n xs ≡ None) × (first_from n ys ≡ None)
 both_none n xs ys e = none_of (first_from n xs) (first_from n ys) (sym (first_joined n xs ys) ∙ e)
@@ -22,7 +19,7 @@ none_both n xs ys e f = first_joined n xs ys ∙ (ap (λ o. otherwise o (first_f
 
 test_none : (b : Bool) (o : Option ℕ) (p : ℕ) → cond b o (Some p) ≡ None → (b ≡ true) × (o ≡ None)
 test_none true o p e = (refl, e)
-test_none false o p e = no_place e
+test_none false o p e = cc
 
 -- one number in front
 head_none : (n : ℕ) (x : Number) (xs : List Number) → first_from n (x ∷ xs) ≡ None → (x.type < n) × (first_from n xs ≡ None)

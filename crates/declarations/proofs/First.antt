@@ -1,7 +1,11 @@
 -- The first number of lists joined, and a walk over items that stops at the first.
-use Rattle.std.proofs.Common.{◌≡◌, ℕ, ◌+◌, ◌<◌, ◌≤◌, Bool, true, false, cond, ltb, List, [], ◌∷◌, ◌++◌, length, get_or, drop, Some, None, Option, sym, refl, ap, ◌∙◌}
+use Rattle.std.proofs.Common.{◌≡◌, ℕ, zero, suc, ◌+◌, ◌*◌, ◌<◌, ◌≤◌, Bool, true, false, cond, not, ltb, nat_le, nat_lt, List, [], ◌∷◌, ◌++◌, length, get_or, slice_index_or, drop, position, Some, None, Option, sym, refl, ap, ◌∙◌, arith}
+use Rattle.std.specs.List.{flat_map, position_from}
+use Rattle.std.specs.Option.{MatchOption, option_map}
+use Rattle.std.proofs.lemmas.Bool.Decides.{nat_tests}
+use Rattle.std.proofs.lemmas.Iterator.Adapters.{position_from-zero}
 use Rattle.std.proofs.lemmas.List.{at_drop_more, at_drop_all}
-use Rattle.declarations.specs.Numbers.{Number, first_from}
+use Rattle.declarations.specs.Numbers.{Number, number, first_from}
 
 abbrev pub otherwise : Option ℕ → Option ℕ → Option ℕ
 otherwise None r = r
@@ -35,9 +39,53 @@ module _ {X : Type 0} (n : ℕ) (G : ℕ → List X → List Number) (A : ℕ �
   pub ends : length xs ≤ i → first_from n (G p (drop i xs)) ≡ None
   ends h = at_drop_all (λ ys. first_from n (G p ys)) xs i h ∙ ap (first_from n) (none_left p)
 
--- where the first list has none, where it has one, and a last number after a list that has none
-pub past : (n : ℕ) (xs ys : List Number) → None ≡ first_from n xs → first_from n (xs ++ ys) ≡ first_from n ys
-past n xs ys e = first_joined n xs ys ∙ ap (λ o. otherwise o (first_from n ys)) (sym e)
+-- one list after the other: what the first has, or else what the second has
+pub joined : (n : ℕ) (xs ys : List Number) (o r : Option ℕ) → o ≡ first_from n xs → MatchOption o (r ≡ first_from n ys) (λ p. r ≡ Some p)
+    → r ≡ first_from n (xs ++ ys)
+joined n xs ys o r e h = by_first o e h ∙ sym (first_joined n xs ys)
+  where
+    by_first : (o : Option ℕ) → o ≡ first_from n xs → MatchOption o (r ≡ first_from n ys) (λ p. r ≡ Some p)
+        → r ≡ otherwise (first_from n xs) (first_from n ys)
+    by_first None e h = h ∙ ap (λ o. otherwise o (first_from n ys)) e
+    by_first (Some p) e h = h ∙ ap (λ o. otherwise o (first_from n ys)) e
 
-pub within : (n : ℕ) (xs ys : List Number) (q : ℕ) → Some q ≡ first_from n xs → Some q ≡ first_from n (xs ++ ys)
-within n xs ys q e = sym (first_joined n xs ys ∙ ap (λ o. otherwise o (first_from n ys)) (sym e))
+-- r is what g finds at the first item at which it finds something
+abbrev pub IsFound : {X : Type 0} → (X → Option ℕ) → List X → Option ℕ → Type 0
+IsFound {X} g xs r =
+    MatchOption r ((k : ℕ) (d : X) → k < length xs → g (slice_index_or xs k d) ≡ None)
+    (λ y. (i : ℕ) × (i < length xs) × ((d : X) → g (slice_index_or xs i d) ≡ Some y) × ((k : ℕ) (d : X) → k < i → g (slice_index_or xs k d) ≡ None))
+
+pub found : {X : Type 0} (n : ℕ) (A : X → List Number) (xs : List X) (r : Option ℕ) → IsFound (λ x. first_from n (A x)) xs r
+    → r ≡ first_from n (flat_map A xs)
+found n A [] None h = refl
+found n A [] (Some y) h = absurd (omega (arith, h.1))
+found n A (x ∷ xs) None h =
+    joined n (A x) (flat_map A xs) None None (sym (h 0 x (omega arith))) (found n A xs None (λ k d l. h (suc k) d (omega arith)))
+found n A (x ∷ xs) (Some y) (zero, low, hit, none) =
+    joined n (A x) (flat_map A xs) (Some y) (Some y) (sym (hit x)) refl
+found n A (x ∷ xs) (Some y) (suc i, low, hit, none) =
+    joined n (A x) (flat_map A xs) None (Some y) (sym (none 0 x (omega arith)))
+    (found n A xs (Some y) (i, omega arith, hit, λ k d l. none (suc k) d (omega arith)))
+
+turned : (n t : ℕ) → nat_le n t ≡ not (nat_lt t n)
+turned n t = grind (arith, nat_tests)
+
+-- Numbers of which the one at an index i stands at `at i`: the first that is not below n is at the first such index.
+module _ (n : ℕ) (G : ℕ → List ℕ → List Number) (first width : ℕ) (none_left : (p : ℕ) → G p [] ≡ [])
+    (one_more : (p t : ℕ) (ts : List ℕ) → G p (t ∷ ts) ≡ number (p + first) t ∷ G (p + width) ts) where
+  from : (p k q : ℕ) (ts : List ℕ) → p + width * k ≡ q → option_map (λ i. p + width * i + first) (position_from (nat_le n) k ts) ≡ first_from n (G q ts)
+  from p k q [] e = sym (ap (first_from n) (none_left q))
+  from p k q (t ∷ ts) e =
+      let next : p + width * (k + 1) ≡ q + width = grind arith in
+      by_test' (nat_le n t) (nat_lt t n) (turned n t) _ _ _ _ (ap Some (ap (λ x. x + first) e)) (from p (k + 1) (q + width) ts next)
+      ∙ sym (ap (first_from n) (one_more q t ts))
+    where
+      by_test' : (a b : Bool) → a ≡ not b → (i j : ℕ) (r s : Option ℕ) → Some (p + width * i + first) ≡ Some j
+          → option_map (λ i. p + width * i + first) r ≡ s → option_map (λ i. p + width * i + first) (cond a (Some i) r) ≡ cond b s (Some j)
+      by_test' true false e i j r s f g = f
+      by_test' false true e i j r s f g = g
+      by_test' true true e i j r s f g = cc
+      by_test' false false e i j r s f g = cc
+
+  pub placed : (p : ℕ) (ts : List ℕ) → option_map (λ i. p + width * i + first) (position (nat_le n) ts) ≡ first_from n (G p ts)
+  placed p ts = ap (option_map (λ i. p + width * i + first)) (position_from-zero (nat_le n) ts) ∙ from p 0 p ts (omega arith)

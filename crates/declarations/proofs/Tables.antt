@@ -1,5 +1,5 @@
 -- The tables hold the records' type numbers at the records' places.
-use Rattle.std.proofs.Common.{◌≡◌, ℕ, ◌+◌, List, [], ◌∷◌, ◌++◌, map, length, refl, ap, ◌∙◌, arith}
+use Rattle.std.proofs.Common.{◌≡◌, ℕ, ◌+◌, List, [], ◌∷◌, ◌++◌, map, length, refl, ap, ◌∙◌}
 use Rattle.syntax.specs.declared.tables.Datatype.{Datatype}
 use Rattle.syntax.specs.declared.tables.Callable.{Callable}
 use Rattle.syntax.specs.declared.tables.Signature.{Signature}
@@ -10,17 +10,11 @@ use Rattle.records.specs.Raw.{Raw, RawFunction, write_function}
 use Rattle.tables.specs.Tabled.{places_of, mark_at, functions_start, Declares}
 use Rattle.declarations.specs.Numbers.{in_cases, in_types, in_profile, in_functions, in_unknowns, numbers_in, of_types, of_functions, of_tables}
 
-apart : {A B : Type 0} {x : B} {xs : List B} → ◌≡◌ {A = List B} [] (x ∷ xs) → A
-apart e = let z : ◌≡◌ {A = ℕ} 0 1 = cc in absurd (omega arith)
-
-apart' : {A B : Type 0} {x : B} {xs : List B} → ◌≡◌ {A = List B} (x ∷ xs) [] → A
-apart' e = let z : ◌≡◌ {A = ℕ} 0 1 = cc in absurd (omega arith)
-
 types_agree : (ds : List Datatype) (ts : List (List (List ℕ))) (p : ℕ) → map cases_in ds ≡ ts → map (λ d. d.at) ds ≡ places_of mark_at encode_type p ts
     → of_types ds ≡ in_types p ts
 types_agree [] [] p e f = refl
-types_agree [] (t ∷ ts) p e f = apart e
-types_agree (d ∷ ds) [] p e f = apart' e
+types_agree [] (t ∷ ts) p e f = cc
+types_agree (d ∷ ds) [] p e f = cc
 types_agree (d ∷ ds) (t ∷ ts) p e f =
     let same : cases_in d ≡ t = cc in
     let rest : map cases_in ds ≡ ts = cc in
@@ -32,8 +26,8 @@ types_agree (d ∷ ds) (t ∷ ts) p e f =
 functions_agree : (fs : List Callable) (rs : List RawFunction) (p : ℕ) → map profile_in fs ≡ map (λ f. f.profile) rs
     → map (λ f. f.at) fs ≡ places_of mark_at write_function p rs → of_functions fs ≡ in_functions p rs
 functions_agree [] [] p e f = refl
-functions_agree [] (r ∷ rs) p e f = apart e
-functions_agree (d ∷ ds) [] p e f = apart' e
+functions_agree [] (r ∷ rs) p e f = cc
+functions_agree (d ∷ ds) [] p e f = cc
 functions_agree (d ∷ ds) (r ∷ rs) p e f =
     let same : profile_in d ≡ r.profile = cc in
     let rest : map profile_in ds ≡ map (λ x. x.profile) rs = cc in
@@ -46,7 +40,7 @@ functions_agree (d ∷ ds) (r ∷ rs) p e f =
 -- Bool stands first in the table, at place 0, and takes no types
 with_bool : (ds : List Datatype) (ts : List (List (List ℕ))) → map cases_in ds ≡ bool ∷ ts → map (λ d. d.at) ds ≡ 0 ∷ places_of mark_at encode_type 0 ts
     → of_types ds ≡ in_types 0 ts
-with_bool [] ts e f = apart e
+with_bool [] ts e f = cc
 with_bool (d ∷ ds) ts e f =
     let same : cases_in d ≡ bool = cc in
     let rest : map cases_in ds ≡ ts = cc in

@@ -1,4 +1,5 @@
 -- The type numbers outside terms, with their places, front to back; and the first that names no type. Assumes nothing.
+use Rattle.std.specs.List.{flat_map}
 use Rattle.std.specs.Prelude.{ℕ, ◌+◌, ◌<◌, ◌≤◌, cond, List, [], ◌∷◌, ◌++◌, length, Some, None, Option, nat_lt, slice_index_or}
 use Rattle.syntax.specs.declared.tables.Datatype.{Datatype}
 use Rattle.syntax.specs.declared.tables.Callable.{Callable}
@@ -57,12 +58,10 @@ undeclared r = first_from (length (declared_by r).types) (numbers_in r)
 
 -- The same numbers, by the tables.
 abbrev pub of_types : List Datatype → List Number
-of_types [] = []
-of_types (d ∷ ds) = in_cases (d.at + 3) (cases_in d) ++ of_types ds
+of_types ds = flat_map (λ d. in_cases (d.at + 3) (cases_in d)) ds
 
 abbrev pub of_functions : List Callable → List Number
-of_functions [] = []
-of_functions (f ∷ fs) = in_profile f.at (listed f.params) f.result ++ of_functions fs
+of_functions fs = flat_map (λ f. in_profile f.at (listed f.params) f.result) fs
 
 abbrev pub of_tables : Signature → ℕ → List Number
 of_tables sig start = of_types sig.types.now ++ (of_functions sig.functions.now ++ in_unknowns start sig.unknowns.now)

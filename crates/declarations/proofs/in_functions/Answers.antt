@@ -1,17 +1,8 @@
-use Rattle.std.proofs.Common.{sym, ◌∙◌}
-use Rattle.declarations.proofs.Walks.{functions_pass, functions_stop, functions_end}
+use Rattle.std.proofs.Common.{rules}
+use Rattle.syntax.specs.Tables.{listed}
+use Rattle.declarations.specs.Numbers.{in_profile}
+use Rattle.declarations.proofs.First.{found}
 use Rattle.declarations.proofs.in_functions.Goals as goal
 
-pub returns-in-Some : goal.returns-in-Some
-returns-in-Some c =
-    sym (c.loop-function.invariant
-    ∙ functions_stop c.args.known c.args.functions.now c.loop-function.function-index c.loop-function-test.true c.in-Some.found c.in-Some.ensures)
-
-pub loop-function-preserved : goal.loop-function-preserved
-loop-function-preserved c =
-    c.loop-function.invariant
-    ∙ functions_pass c.args.known c.args.functions.now c.loop-function.function-index c.loop-function-test.true c.in_default.ensures
-
 pub returns : goal.returns
-returns c =
-    sym (c.loop-function.invariant ∙ functions_end c.args.known c.args.functions.now c.loop-function.function-index c.loop-function-test.false)
+returns c = found c.args.known (λ f. in_profile f.at (listed f.params) f.result) c.args.functions.now c.find_map.result (search rules)
