@@ -1,26 +1,59 @@
--- The least of needs grows by one constructor after another, the table of needs by one row after another. Assumes nothing.
-use Rattle.std.proofs.Common.{◌≡◌, ℕ, ◌+◌, ◌<◌, ◌≤◌, min, List, [], length, get_or, set, sym, ap, ◌∙◌, ⊎_elim, arith}
+-- The greatest depth and the least need by folds; the table of needs grows by one row after another. Assumes nothing.
+use Rattle.std.proofs.Common.{◌≡◌, ℕ, zero, suc, ◌+◌, ◌<◌, ◌≤◌, min, max, List, [], ◌∷◌, map, length, get_or, set, sym, ap, ◌∙◌, ⊎_elim, arith}
+use Rattle.std.specs.List.{fold}
+use Rattle.std.proofs.lemmas.List.{length-map, get_or-map}
+use Rattle.syntax.specs.Least.{greatest}
 use Rattle.std.proofs.lemmas.List.{get_or-set_same, get_or-set_other}
 use Rattle.std.proofs.lemmas.Bool.{cases_eq, cases_lt}
 use Rattle.depths.specs.Needs.{Easiest}
 
-pub of_none : (needs : ℕ → ℕ) → Easiest needs 0 9
-of_none needs = record { low = omega arith; least = λ c l. absurd (omega (arith, l)); reached = λ l. absurd (omega (arith, l)) }
+-- the greatest of what f gives, by a fold
+pub greatest_fold : (f : ℕ → ℕ) (ts : List ℕ) (a : ℕ) → fold (λ a x. max a x) a (map f ts) ≡ max a (greatest f ts)
+greatest_fold f [] a = omega arith
+greatest_fold f (t ∷ ts) a = let ih = greatest_fold f ts (max a (f t)) in omega (arith, ih)
 
-pub one_more : (needs : ℕ → ℕ) (n d : ℕ) → Easiest needs n d → Easiest needs (n + 1) (min d (needs n))
-one_more needs n d e = record { low = let l = e.low in omega (arith, l); least = least'; reached = reached' }
+pub greatest_low : (f : ℕ → ℕ) (ts : List ℕ) (n : ℕ) → ((t : ℕ) → f t ≤ n) → greatest f ts ≤ n
+greatest_low f [] n low = omega arith
+greatest_low f (t ∷ ts) n low = let one = low t in let more = greatest_low f ts n low in omega (arith, one, more)
+
+-- m is d, or the least of the numbers xs if one of them is less
+record Least (d : ℕ) (xs : List ℕ) (m : ℕ) : Type 0 where
+  low : m ≤ d
+  least : (c : ℕ) → c < length xs → m ≤ get_or xs c 0
+  reached : m < d → (c : ℕ) × (c < length xs) × (get_or xs c 0 ≡ m)
+
+least_fold : (xs : List ℕ) (d : ℕ) → Least d xs (fold (λ a x. min a x) d xs)
+least_fold [] d = record { low = omega arith; least = λ c l. absurd (omega (arith, l)); reached = λ l. absurd (omega (arith, l)) }
+least_fold (x ∷ xs) d = one_more x xs d (fold (λ a x. min a x) (min d x) xs) (least_fold xs (min d x))
   where
-    least' : (c : ℕ) → c < n + 1 → min d (needs n) ≤ needs c
-    least' c l = ⊎_elim
-        (λ q. let s = ap needs q in omega (arith, s))
-        (λ ne. let m = e.least c (omega arith) in omega (arith, m))
-        (cases_eq c n)
+    one_more : (x : ℕ) (xs : List ℕ) (d m : ℕ) → Least (min d x) xs m → Least d (x ∷ xs) m
+    one_more x xs d m h = record { low = let l = h.low in omega (arith, l); least = each; reached = hit }
+      where
+        each : (c : ℕ) → c < length (x ∷ xs) → m ≤ get_or (x ∷ xs) c 0
+        each zero l = let l = h.low in omega (arith, l)
+        each (suc c) l = h.least c (omega (arith, l))
 
-    reached' : min d (needs n) ≤ 8 → (c : ℕ) × (c < n + 1) × (needs c ≡ min d (needs n))
-    reached' l = ⊎_elim
-        (λ lt. (n, omega arith, omega (arith, lt)))
-        (λ le. let q = e.reached (omega (arith, l, le)) in let m = q.1 in let s = q.2 in (q.0, omega (arith, m), omega (arith, s, le)))
-        (cases_lt (needs n) d)
+        hit : m < d → (c : ℕ) × (c < length (x ∷ xs)) × (get_or (x ∷ xs) c 0 ≡ m)
+        hit l = ⊎_elim
+            (λ lt. let q = h.reached lt in let b = q.1 in (suc q.0, omega (arith, b), q.2))
+            (λ le. let low = h.low in (0, omega arith, omega (arith, l, le, low)))
+            (cases_lt m (min d x))
+
+-- the least of what constructors need, if that is at most 8
+pub easiest_fold : (need : List ℕ → ℕ) (cs : List (List ℕ)) → Easiest (λ c. need (get_or cs c [])) (length cs) (fold (λ a x. min a x) 9 (map need cs))
+easiest_fold need cs = record { low = L.low; least = each; reached = hit }
+  where
+    L : Least 9 (map need cs) (fold (λ a x. min a x) 9 (map need cs))
+    L = least_fold (map need cs) 9
+
+    each : (c : ℕ) → c < length cs → fold (λ a x. min a x) 9 (map need cs) ≤ need (get_or cs c [])
+    each c l = let m = L.least c (simp length-map l) in let e = get_or-map need cs c [] 0 l in omega (arith, m, e)
+
+    hit : fold (λ a x. min a x) 9 (map need cs) ≤ 8 → (c : ℕ) × (c < length cs) × (need (get_or cs c []) ≡ fold (λ a x. min a x) 9 (map need cs))
+    hit l =
+        let q = L.reached (omega (arith, l)) in
+        let low : q.0 < length cs = simp length-map at q.1 in
+        (q.0, low, sym (get_or-map need cs q.0 [] 0 low) ∙ q.2)
 
 -- the rows below t hold the needs of their types
 abbrev pub FilledTo : (ℕ → ℕ → ℕ) → List (List ℕ) → ℕ → Type 0

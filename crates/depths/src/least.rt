@@ -11,8 +11,8 @@ fn round(sig: Signature, least: &mut [u8])
     requires { length least.old ≡ length sig.types.now }
     ensures { (k : ℕ) → Known (declared_in sig.entry) least.old k 0 → Known (declared_in sig.entry) least.new (k + 1) 0 }
 {
-    for (t, d) in sig.types.iter().enumerate() {
-        least[t] = easiest(least, *d);
+    for (t, datatype) in sig.types.iter().enumerate() {
+        least[t] = easiest(least, datatype);
     }
 }
 
@@ -20,12 +20,7 @@ fn round(sig: Signature, least: &mut [u8])
 fn first_unknown(least: &[u8]) -> Option<usize>
     ensures { FirstUnknown least.now result }
 {
-    for (t, d) in least.iter().enumerate() {
-        if *d >= UNKNOWN {
-            return Some(t);
-        }
-    }
-    None
+    least.iter().position(|depth| *depth >= UNKNOWN)
 }
 
 // Writes the least depth of each type, or 9 where no value is at most 8 deep; the first type without such a value.

@@ -1,5 +1,5 @@
 // What constructors need, by a table of least depths.
-ghost use Rattle.std.specs.Prelude.{◌≡◌, ℕ, ◌<◌, ◌≤◌, length, slice_index};
+ghost use Rattle.std.specs.Prelude.{◌≡◌, ℕ, ◌+◌, ◌<◌, ◌≤◌, length, map, slice_index};
 ghost use Rattle.syntax.specs.Tables.{listed, cases_in, declared_in};
 ghost use Rattle.syntax.specs.Least.{greatest, need_of};
 ghost use Rattle.depths.specs.Needs.{depth_at, need_by, need_in, Easiest, Filled};
@@ -14,11 +14,9 @@ pub(crate) const UNKNOWN: u8 = 9;
 fn depth_at(least: &[u8], t: u8) -> u8
     ensures { result ≡ depth_at least.now t }
 {
-    if (t as usize) < least.len() {
-        least[t as usize].min(UNKNOWN)
-    } else {
-        UNKNOWN
-    }
+    least
+        .get(usize::from(t))
+        .map_or(UNKNOWN, |depth| (*depth).min(UNKNOWN))
 }
 
 // The greatest least depth among some types.
@@ -26,60 +24,26 @@ fn deepest_of(least: &[u8], types: &[u8]) -> u8
     ensures is { result ≡ greatest (depth_at least.now) types.now }
     ensures low { result ≤ 9 }
 {
-    let mut deepest = 0u8;
-    for t in types {
-        deepest = deepest.max(depth_at(least, *t));
-    }
-    deepest
+    types.iter().map(|t| depth_at(least, *t)).fold(0, u8::max)
 }
 
-// How many types a list has.
-fn arity(args: TypeList) -> usize
-    ensures { (result ≡ length (listed args)) × (result ≤ 6) }
-{
-    (args.count as usize).min(6)
-}
-
-// How many constructors a type has.
-fn constructors(d: Datatype) -> u8
-    ensures { (result ≡ length (cases_in d)) × (result ≤ 16) }
-{
-    d.count.min(16)
-}
-
-// What the constructor `c` of a type needs; a constant's need for a constructor that the type does not have.
-fn need_in(least: &[u8], d: Datatype, c: u8) -> u8
-    ensures is { result ≡ need_in least.now (cases_in d) c }
+// What a constructor with arguments of these types needs.
+fn need_of(least: &[u8], arguments: &[u8]) -> u8
+    ensures is { result ≡ 1 + greatest (depth_at least.now) arguments.now }
     ensures low { result ≤ 10 }
 {
-    if c < constructors(d) {
-        let args = d.constructors[c as usize];
-        1 + deepest_of(least, &args.types[..arity(args)])
-    } else {
-        1
-    }
+    1 + deepest_of(least, arguments)
 }
 
 // The least need of a type's constructors.
-pub(crate) fn easiest(least: &[u8], d: Datatype) -> u8
-    ensures { Easiest (need_in least.now (cases_in d)) (length (cases_in d)) result }
+pub(crate) fn easiest(least: &[u8], datatype: &Datatype) -> u8
+    ensures { Easiest (need_in least.now (cases_in datatype.now)) (length (cases_in datatype.now)) result }
 {
-    let mut easiest = UNKNOWN;
-    for c in 0..constructors(d) {
-        easiest = easiest.min(need_in(least, d, c));
-    }
-    easiest
-}
-
-// What a constructor needs, by the number of its type.
-fn need_at(sig: Signature, least: &[u8], t: usize, c: u8) -> u8
-    ensures { result ≡ need_by (declared_in sig.entry) least.now t c }
-{
-    if t < sig.types.len() {
-        need_in(least, sig.types[t], c)
-    } else {
-        1
-    }
+    datatype
+        .cases()
+        .iter()
+        .map(|case| need_of(least, case.types()))
+        .fold(UNKNOWN, u8::min)
 }
 
 // What the constructor `c` of the type `t` needs, right where the table of least depths is.
@@ -87,16 +51,17 @@ pub fn need(sig: Signature, least: &[u8], t: u8, c: u8) -> u8
     ensures by { result ≡ need_by (declared_in sig.entry) least.now t c }
     ensures is { Leasts (declared_in sig.entry) least.now → result ≡ need_of (declared_in sig.entry) t c }
 {
-    need_at(sig, least, t as usize, c)
+    need_of(least, sig.arguments(t, c))
 }
 
-// One row of the table of needs.
-fn needs_of(sig: Signature, least: &[u8], t: usize) -> [u8; 16]
-    ensures { (c : ℕ) → c < 16 → slice_index result c ≡ need_by (declared_in sig.entry) least.now t c }
+// The row of a type in the table of needs; past its last constructor stands the need of a constant.
+fn needs_of(least: &[u8], cases: &[TypeList]) -> [u8; 16]
+    requires { length cases.now ≤ 16 }
+    ensures { (c : ℕ) → c < 16 → slice_index result c ≡ need_in least.now (map listed cases.now) c }
 {
-    let mut row = [0u8; 16];
-    for c in 0..16u8 {
-        row[c as usize] = need_at(sig, least, t, c);
+    let mut row = [1; 16];
+    for (c, case) in cases.iter().enumerate() {
+        row[c] = need_of(least, case.types());
     }
     row
 }
@@ -106,7 +71,7 @@ pub fn fill_needs(sig: Signature, least: &[u8], needs: &mut [[u8; 16]])
     ensures by { Filled (need_by (declared_in sig.entry) least.now) needs.new }
     ensures is { Leasts (declared_in sig.entry) least.now → Filled (need_of (declared_in sig.entry)) needs.new }
 {
-    for t in 0..needs.len() {
-        needs[t] = needs_of(sig, least, t);
+    for (t, row) in needs.iter_mut().enumerate() {
+        *row = needs_of(least, sig.cases(t));
     }
 }

@@ -115,12 +115,12 @@ impl<'a> Signature<'a> {
         usize::from(t) < self.types.len()
     }
 
-    // The constructors of a type, each by the types of its arguments.
-    pub fn cases(self, t: u8) -> &'a [TypeList]
+    // The constructors of the type at an index of the table, each by the types of its arguments.
+    pub fn cases(self, t: usize) -> &'a [TypeList]
         ensures is { map listed result.now ≡ cases_of (declared_in self.entry) t }
         ensures few { length result.now ≤ 16 }
     {
-        match self.types.get(usize::from(t)) {
+        match self.types.get(t) {
             Some(datatype) => datatype.cases(),
             None => &[],
         }
@@ -130,7 +130,7 @@ impl<'a> Signature<'a> {
     pub fn case_count(self, t: u8) -> u8
         ensures { result ≡ length (cases_of (declared_in self.entry) t) }
     {
-        self.cases(t).len() as u8
+        self.cases(usize::from(t)).len() as u8
     }
 
     // The argument types of a constructor.
@@ -138,7 +138,7 @@ impl<'a> Signature<'a> {
         ensures is { result.now ≡ arguments (declared_in self.entry) t c }
         ensures few { length result.now ≤ 6 }
     {
-        match self.cases(t).get(usize::from(c)) {
+        match self.cases(usize::from(t)).get(usize::from(c)) {
             Some(list) => list.types(),
             None => &[],
         }
