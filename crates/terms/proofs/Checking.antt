@@ -1,6 +1,7 @@
 -- The reading of a byte, as the check's loop has it. Assumes nothing.
-use Rattle.std.proofs.Common.{◌≡◌, ℕ, ◌+◌, ◌<◌, ◌≤◌, cond, List, [], ◌∷◌, ◌++◌, length, get_or, drop, Ok, Err, Result, sym, refl, ap, ◌∙◌, arith}
+use Rattle.std.proofs.Common.{◌≡◌, ℕ, ◌+◌, ◌<◌, ◌≤◌, cond, List, [], ◌∷◌, ◌++◌, length, get_or, drop, Some, None, Ok, Err, Option, Result, MatchOption, subst, sym, refl, ap, ◌∙◌, arith}
 use Rattle.std.proofs.lemmas.List.{at_drop_more, at_drop_all}
+use Rattle.std.specs.Option.{ok_or}
 use Rattle.syntax.specs.declared.faults.Fault.{Fault}
 use Rattle.syntax.specs.declared.faults.Reason.TheVariants.{BadTerm}
 use Rattle.syntax.specs.Faults.{fault}
@@ -8,6 +9,11 @@ use Rattle.syntax.specs.Terms.{Terms}
 use Rattle.syntax.specs.Typing.{Sig}
 use Rattle.reading.specs.Reading.{Item, asked, made, reads, first_read, verdict}
 use Rattle.terms.specs.Tasks.{Stops, Moves}
+
+-- what holds of a value that is there, where it is made an answer
+pub by_ok : {A E : Type 0} (P : Type 0) (Q : A → Type 0) (o : Option A) (e : E) (x : A) → ok_or o e ≡ Ok x → MatchOption o P Q → Q x
+by_ok P Q None e x q m = absurd (cc)
+by_ok P Q (Some y) e x q m = let same : y ≡ x = cc in subst Q same m
 
 abbrev pub answer : Result Terms ℕ → Result (Unit {0}) Fault
 answer r = verdict (first_read r)
@@ -18,6 +24,10 @@ refused_at p = Err (fault BadTerm p)
 answer_made : (i : Item) (b k : ℕ) (r : Result Terms ℕ) → answer (made i b k r) ≡ answer r
 answer_made i b k (Ok ts) = refl
 answer_made i b k (Err p) = refl
+
+refused : (sig : Sig) (is : List Item) (b : ℕ) (bs : List ℕ) (p : ℕ) → Stops sig is b → answer (reads sig is (b ∷ bs) p) ≡ refused_at p
+refused sig [] b bs p m = refl
+refused sig (i ∷ is) b bs p m = ap (λ t. answer (cond t (made i b (length (asked sig i b)) (reads sig (asked sig i b ++ is) bs (p + 1))) (Err p))) m
 
 module _ (sig : Sig) (bytes : List ℕ) (base p : ℕ) (is : List Item) where
   -- what is answered where these items are left at the place q of the bytes
@@ -39,18 +49,8 @@ module _ (sig : Sig) (bytes : List ℕ) (base p : ℕ) (is : List Item) where
 
   pub halts : p < length bytes → Stops sig is (get_or bytes p 0) → Out is p ≡ refused_at (base + p)
   halts h m =
-      let b = get_or bytes p 0 in
-      let bs = drop (p + 1) bytes in
-      let i = m.top in
       at_drop_more (λ xs. answer (reads sig is xs (base + p))) bytes p 0 h
-      ∙ ap (λ js. answer (reads sig js (b ∷ bs) (base + p))) m.first
-      ∙ ap (λ t. answer (cond t (made i b (length (asked sig i b)) (reads sig (asked sig i b ++ m.others) bs (base + p + 1))) (Err (base + p)))) m.bad
-
-  -- bytes are left over
-  pub over : p < length bytes → is ≡ [] → Out is p ≡ refused_at (base + p)
-  over h e =
-      at_drop_more (λ xs. answer (reads sig is xs (base + p))) bytes p 0 h
-      ∙ ap (λ js. answer (reads sig js (get_or bytes p 0 ∷ drop (p + 1) bytes) (base + p))) e
+      ∙ refused sig is (get_or bytes p 0) (drop (p + 1) bytes) (base + p) m
 
   pub ends : length bytes ≤ p → is ≡ [] → Out is p ≡ Ok tt
   ends h e =

@@ -1,4 +1,2 @@
-pub mod Opening
 pub mod Piles
-pub mod Advancing
 pub mod Checking

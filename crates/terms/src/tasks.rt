@@ -1,11 +1,23 @@
 // What is still to be read of a term.
+ghost use Rattle.std.specs.Prelude.{◌≡◌, ◌<◌, [], ◌∷◌, length, MatchOption, Some};
+ghost use Rattle.terms.specs.Tasks.{whole, put};
+
 use reading::parts::Part;
+use std::marker::Model;
+
+// A term that is wanted, from this part of it on; `cut` of the variables are in scope.
+#[derive(Clone, Copy)]
+pub struct Wanted {
+    pub part: Part,
+    pub ty: u8,
+    pub cut: u8,
+}
 
 // Terms that are still to be read, one or more; `cut` of the variables are in scope. A task stands for all the parts that are
 // left of one term, so that a byte adds at most one task.
 #[derive(Clone, Copy)]
 pub enum Task {
-    One { part: Part, ty: u8, cut: u8 }, // a term, from this part of it on
+    One(Wanted),
     Two { ty: u8, cut: u8 }, // two terms of one type
     Arguments { of: u8, con: u8, next: u8, cut: u8 }, // those of a constructor, from `next` on
     Parameters { of: u8, next: u8, cut: u8 }, // the arguments of a call, from `next` on
@@ -16,16 +28,94 @@ pub enum Task {
 // The first term of a task, and the rest of the task.
 #[derive(Clone, Copy)]
 pub struct Opened {
-    pub part: Part,
-    pub ty: u8,
-    pub cut: u8,
+    pub first: Wanted,
     pub rest: Option<Task>,
 }
 
-// What a byte does where a term is wanted: it is refused, it ends the term, or more has to come.
-#[derive(Clone, Copy)]
-pub enum Step {
-    Fails,
-    Done,
-    Then(Task),
+impl Wanted {
+    // A whole term.
+    pub fn whole(ty: u8, cut: u8) -> Wanted
+        ensures { result ≡ whole ty cut }
+    {
+        Wanted {
+            part: Part::Start,
+            ty,
+            cut,
+        }
+    }
+
+    // What comes after a byte of this term: the term from this part of it on.
+    pub fn then(self, part: Part) -> Option<Task>
+        ensures { result ≡ Some (Task.One (record { part = part; ty = self.ty; cut = self.cut })) }
+    {
+        Some(Task::One(Wanted { part, ..self }))
+    }
+}
+
+// A stack of at most N tasks. It is an array, so that nothing is allocated.
+#[derive(Drop)]
+pub struct Stack<const N: usize> {
+    tasks: [Task; N],
+    len: usize,
+}
+
+// Clauses see the tasks, the topmost first.
+impl<const N: usize> Model for Stack<N> {
+    ghost use Rattle.std.specs.Prelude.{List, reverse, take, ◌≤◌};
+    ghost use Rattle.terms.specs.declared.tasks.Task.{Task};
+
+    ghost Value = { List Task };
+
+    ghost view = { λ s. reverse (take s.len s.tasks) };
+
+    ghost invariant = { λ s. s.len ≤ N };
+}
+
+impl<const N: usize> Stack<N> {
+    pub fn new() -> Self
+        ensures { result ≡ [] }
+    {
+        Stack {
+            tasks: [Task::Two { ty: 0, cut: 0 }; N],
+            len: 0,
+        }
+    }
+
+    // Takes all tasks away, and puts this one.
+    pub fn restart(&mut self, task: Task)
+        requires { 0 < N }
+        ensures { self.new ≡ task ∷ [] }
+    {
+        self.len = 0;
+        self.push(task);
+    }
+
+    pub fn push(&mut self, task: Task)
+        requires { length self.old < N }
+        ensures { self.new ≡ task ∷ self.old }
+    {
+        self.tasks[self.len] = task;
+        self.len += 1;
+    }
+
+    // Puts a task on top, if there is one.
+    pub fn put(&mut self, task: Option<Task>)
+        requires { length self.old < N }
+        ensures { self.new ≡ put task self.old }
+    {
+        if let Some(task) = task {
+            self.push(task);
+        }
+    }
+
+    // Takes the topmost task; none if there is none.
+    pub fn pop(&mut self) -> Option<Task>
+        ensures { MatchOption result (self.old ≡ []) (λ x. self.old ≡ x ∷ self.new) }
+    {
+        if self.len == 0 {
+            return None;
+        }
+        self.len -= 1;
+        Some(self.tasks[self.len])
+    }
 }

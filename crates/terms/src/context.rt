@@ -1,0 +1,236 @@
+// What a byte of a term means: the declarations that it may name, and the variables in scope.
+ghost use Rattle.std.specs.Prelude.{◌≡◌, ℕ, ◌+◌, ◌<◌, ◌≤◌, List, length, take, MatchOption, nat_lt, slice_index, Some};
+ghost use Rattle.std.specs.Bool.{then_some};
+ghost use Rattle.syntax.specs.Typing.{cases_of, arguments, params_of, stands};
+ghost use Rattle.syntax.specs.Tables.{declared_in};
+ghost use Rattle.reading.specs.declared.parts.Part.TheVariants.{WhichConstructor, WhichFunction};
+ghost use Rattle.reading.specs.Reading.{item};
+ghost use Rattle.terms.specs.Tasks.{cut_of, item_of, whole, Left, Binds, Opens, Crowded, Steps};
+
+use crate::tasks::{Opened, Task, Wanted};
+use reading::parts::{Part, Tag};
+use syntax::tables::Signature;
+
+// The declarations, and the types of the variables: each scope is a front of the one array.
+#[derive(Drop)]
+pub struct Context<'a> {
+    pub sig: Signature<'a>,
+    pub scope: [u8; 64],
+}
+
+// The first of a list's terms from `next` on, and the rest of them where there are more.
+fn open_listed(types: &[u8], next: u8, cut: u8, rest: Task) -> Opened
+    requires { next < length types.now }
+    ensures { result ≡ record { first = whole (slice_index types.now next) cut; rest = then_some (nat_lt (next + 1) (length types.now)) rest } }
+{
+    let more = usize::from(next) + 1 < types.len();
+    Opened {
+        first: Wanted::whole(types[usize::from(next)], cut),
+        rest: more.then_some(rest),
+    }
+}
+
+impl<'a> Context<'a> {
+    // The types of the variables, in front of the others.
+    pub fn lay(&mut self, variables: &[u8])
+        requires { length variables.now ≤ 64 }
+        ensures sig { self.new.sig ≡ self.old.sig }
+        ensures is { take (length variables.now) self.new.scope ≡ variables.now }
+    {
+        self.scope[..variables.len()].copy_from_slice(variables);
+    }
+
+    // A branch begins: its constructor's arguments are the next variables. The number of variables, if at most 64.
+    fn bind(&mut self, cut: u8, types: &[u8]) -> Option<u8>
+        requires { cut ≤ 64 }
+        ensures sig { self.new.sig ≡ self.old.sig }
+        ensures is { MatchOption result (64 < cut + length types.now) (λ k. Binds self.old.scope self.new.scope cut types.now k) }
+    {
+        let start = usize::from(cut);
+        if types.len() > 64 - start {
+            return None;
+        }
+        let end = start + types.len();
+        self.scope[start..end].copy_from_slice(types);
+        Some(end as u8)
+    }
+
+    // The first term of each kind of task, and the rest of the task.
+    fn open_arguments(&self, of: u8, con: u8, next: u8, cut: u8) -> Opened
+        requires left { next < length (arguments (declared_in self.now.sig) of con) }
+        requires few { cut ≤ 64 }
+        ensures { Opens (declared_in self.now.sig) self.now.scope self.now.scope (Task.Arguments of con next cut) result }
+    {
+        let types = self.sig.arguments(of, con);
+        let rest = Task::Arguments {
+            of,
+            con,
+            next: next + 1,
+            cut,
+        };
+        open_listed(types, next, cut, rest)
+    }
+
+    fn open_parameters(&self, of: u8, next: u8, cut: u8) -> Opened
+        requires left { next < length (params_of (declared_in self.now.sig) of) }
+        requires few { cut ≤ 64 }
+        ensures { Opens (declared_in self.now.sig) self.now.scope self.now.scope (Task.Parameters of next cut) result }
+    {
+        let types = self.sig.params(of);
+        let rest = Task::Parameters {
+            of,
+            next: next + 1,
+            cut,
+        };
+        open_listed(types, next, cut, rest)
+    }
+
+    fn open_case(&self, of: u8, ty: u8, cut: u8) -> Opened
+        requires { cut ≤ 64 }
+        ensures { Opens (declared_in self.now.sig) self.now.scope self.now.scope (Task.Case of ty cut) result }
+    {
+        let any = self.sig.case_count(of) > 0;
+        let branches = Task::Branches {
+            of,
+            next: 0,
+            ty,
+            cut,
+        };
+        Opened {
+            first: Wanted::whole(of, cut),
+            rest: any.then_some(branches),
+        }
+    }
+
+    // None if the branch would see over 64 variables.
+    fn open_branch(&mut self, of: u8, next: u8, ty: u8, cut: u8) -> Option<Opened>
+        requires left { next < length (cases_of (declared_in self.old.sig) of) }
+        requires few { cut ≤ 64 }
+        ensures sig { self.new.sig ≡ self.old.sig }
+        ensures is { MatchOption result (Crowded (declared_in self.old.sig) self.old.scope (Task.Branches of next ty cut)) (λ o. Opens (declared_in self.old.sig) self.old.scope self.new.scope (Task.Branches of next ty cut) o) }
+    {
+        let count = self.sig.case_count(of);
+        let inner = self.bind(cut, self.sig.arguments(of, next))?;
+        let rest = Task::Branches {
+            of,
+            next: next + 1,
+            ty,
+            cut,
+        };
+        Some(Opened {
+            first: Wanted::whole(ty, inner),
+            rest: (next + 1 < count).then_some(rest),
+        })
+    }
+
+    // The first term of a task, and the rest of the task; none if it is a branch that would see over 64 variables.
+    pub fn open(&mut self, task: Task) -> Option<Opened>
+        requires left { Left (declared_in self.old.sig) task }
+        requires few { cut_of task ≤ 64 }
+        ensures sig { self.new.sig ≡ self.old.sig }
+        ensures is { MatchOption result (Crowded (declared_in self.old.sig) self.old.scope task) (λ o. Opens (declared_in self.old.sig) self.old.scope self.new.scope task o) }
+    {
+        match task {
+            Task::One(first) => Some(Opened { first, rest: None }),
+            Task::Two { ty, cut } => {
+                let first = Wanted::whole(ty, cut);
+                Some(Opened {
+                    first,
+                    rest: Some(Task::One(first)),
+                })
+            }
+            Task::Arguments { of, con, next, cut } => {
+                Some(self.open_arguments(of, con, next, cut))
+            }
+            Task::Parameters { of, next, cut } => Some(self.open_parameters(of, next, cut)),
+            Task::Case { of, ty, cut } => Some(self.open_case(of, ty, cut)),
+            Task::Branches { of, next, ty, cut } => self.open_branch(of, next, ty, cut),
+        }
+    }
+
+    // Is the variable v in scope, of the type ty?
+    fn in_scope(&self, cut: u8, v: u8, ty: u8) -> bool
+        requires { cut ≤ 64 }
+        ensures { result ≡ stands (take cut self.now.scope) v ty }
+    {
+        v < cut && self.scope[usize::from(v)] == ty
+    }
+
+    // The number of a constructor of the type ty.
+    fn read_constructor(&self, ty: u8, cut: u8, c: u8) -> Option<Option<Task>>
+        ensures { Steps (declared_in self.now.sig) self.now.scope (item WhichConstructor (take cut self.now.scope) ty) cut c result }
+    {
+        if c >= self.sig.case_count(ty) {
+            None
+        } else if self.sig.arguments(ty, c).is_empty() {
+            Some(None)
+        } else {
+            Some(Some(Task::Arguments {
+                of: ty,
+                con: c,
+                next: 0,
+                cut,
+            }))
+        }
+    }
+
+    // The number of a function whose result has the type ty.
+    fn read_function(&self, ty: u8, cut: u8, f: u8) -> Option<Option<Task>>
+        ensures { Steps (declared_in self.now.sig) self.now.scope (item WhichFunction (take cut self.now.scope) ty) cut f result }
+    {
+        if !self.sig.gives(f, ty) {
+            None
+        } else if self.sig.params(f).is_empty() {
+            Some(None)
+        } else {
+            Some(Some(Task::Parameters {
+                of: f,
+                next: 0,
+                cut,
+            }))
+        }
+    }
+
+    // The first byte of a term.
+    fn begin(&self, wanted: Wanted, b: u8) -> Option<Option<Task>>
+        requires { wanted.cut ≤ 64 }
+        ensures { Steps (declared_in self.now.sig) self.now.scope (item Part.Start (take wanted.cut self.now.scope) wanted.ty) wanted.cut b result }
+    {
+        let Wanted { ty, cut, .. } = wanted;
+        match Tag::from(b) {
+            Tag::Variable => Some(wanted.then(Part::WhichVariable)),
+            Tag::Unknown => Some(wanted.then(Part::WhichUnknown)),
+            Tag::Constructor => Some(wanted.then(Part::OwnType)),
+            Tag::Call => Some(wanted.then(Part::WhichFunction)),
+            Tag::Case => Some(wanted.then(Part::SubjectType)),
+            Tag::And if ty == 0 => Some(Some(Task::Two { ty, cut })),
+            Tag::Not if ty == 0 => Some(wanted.then(Part::Start)),
+            Tag::Equal if ty == 0 => Some(wanted.then(Part::SidesType)),
+            _ => None,
+        }
+    }
+
+    // A byte where a term is wanted: what has to come after it, if anything; none if the byte is refused.
+    pub fn read(&self, wanted: Wanted, b: u8) -> Option<Option<Task>>
+        requires { wanted.cut ≤ 64 }
+        ensures { Steps (declared_in self.now.sig) self.now.scope (item_of self.now.scope wanted) wanted.cut b result }
+    {
+        let Wanted { part, ty, cut } = wanted;
+        match part {
+            Part::Start => self.begin(wanted, b),
+            Part::WhichVariable => self.in_scope(cut, b, ty).then_some(None),
+            Part::WhichUnknown => self.sig.has_unknown(b, ty).then_some(None),
+            Part::OwnType => (b == ty).then_some(wanted.then(Part::WhichConstructor)),
+            Part::WhichConstructor => self.read_constructor(ty, cut, b),
+            Part::WhichFunction => self.read_function(ty, cut, b),
+            Part::SubjectType => {
+                let then = Some(Task::Case { of: b, ty, cut });
+                self.sig.declares(b).then_some(then)
+            }
+            Part::SidesType => {
+                let then = Some(Task::Two { ty: b, cut });
+                self.sig.declares(b).then_some(then)
+            }
+        }
+    }
+}
