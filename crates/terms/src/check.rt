@@ -11,15 +11,14 @@ use std::marker::Model;
 use syntax::faults::{Fault, Reason};
 use syntax::tables::Signature;
 
-// Checks terms of a problem, one after another, each of fewer than N bytes.
+// Checks terms of a problem, one after another.
 #[derive(Drop)]
-pub struct Checker<'a, const N: usize> {
+pub struct Checker<'a> {
     context: Context<'a>,
-    tasks: Stack<N>,
 }
 
 // Clauses see what is declared.
-impl<'a, const N: usize> Model for Checker<'a, N> {
+impl<'a> Model for Checker<'a> {
     ghost use Rattle.syntax.specs.Typing.{Sig};
     ghost use Rattle.syntax.specs.Tables.{declared_in};
 
@@ -43,7 +42,7 @@ fn advance<const N: usize>(context: &mut Context, tasks: &mut Stack<N>, b: u8) -
     Some(())
 }
 
-impl<'a, const N: usize> Checker<'a, N> {
+impl<'a> Checker<'a> {
     pub fn new(sig: Signature<'a>) -> Self
         ensures { result ≡ declared_in sig.entry }
     {
@@ -52,12 +51,18 @@ impl<'a, const N: usize> Checker<'a, N> {
                 sig,
                 scope: [0; 64],
             },
-            tasks: Stack::new(),
         }
     }
 
     // The check, byte by byte.
-    fn run(&mut self, bytes: &[u8], base: usize, variables: &[u8], wanted: u8) -> Result<(), Fault>
+    fn run<const N: usize>(
+        &mut self,
+        tasks: &mut Stack<N>,
+        bytes: &[u8],
+        base: usize,
+        variables: &[u8],
+        wanted: u8,
+    ) -> Result<(), Fault>
         requires few { length variables.now ≤ 64 }
         requires room { length bytes.now + 1 ≤ N }
         requires within { base + length bytes.now < 2 ^ 64 }
@@ -65,7 +70,6 @@ impl<'a, const N: usize> Checker<'a, N> {
         ensures exact { result ≡ verdict (reading self.old variables.now wanted base bytes.now) }
     {
         let context = &mut self.context;
-        let tasks = &mut self.tasks;
         context.lay(variables);
         tasks.restart(Task::One(Wanted::whole(wanted, variables.len() as u8)));
         for (at, b) in bytes.iter().enumerate() {
@@ -79,9 +83,10 @@ impl<'a, const N: usize> Checker<'a, N> {
     }
 
     // Are the bytes, of which the first stands at the place `base`, one term of the type `wanted`, with variables of these types?
-    // If not, the fault names the place of the first byte that fails or lacks.
-    pub fn check_term(
+    // If not, the fault names the place of the first byte that fails or lacks. `tasks` is working memory.
+    pub fn check_term<const N: usize>(
         &mut self,
+        tasks: &mut Stack<N>,
         bytes: &[u8],
         base: usize,
         variables: &[u8],
@@ -94,6 +99,6 @@ impl<'a, const N: usize> Checker<'a, N> {
         ensures exact { result ≡ verdict (reading self.old variables.now wanted base bytes.now) }
         ensures says { Says self.old variables.now wanted base bytes.now result }
     {
-        self.run(bytes, base, variables, wanted)
+        self.run(tasks, bytes, base, variables, wanted)
     }
 }

@@ -3,4 +3,4 @@
 
 pub mod check;
 mod context;
-mod tasks;
+pub mod tasks;

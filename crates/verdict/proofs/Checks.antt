@@ -17,6 +17,10 @@ use Rattle.verdict.specs.ByTables.{fault_of, bodies_by, goals_by, terms_by}
 never : {A B E : Type 0} {e : E} {x : A} → ◌≡◌ {A = Result A E} (Err e) (Ok x) → B
 never q = let z : ◌≡◌ {A = ℕ} 0 1 = cc in absurd (omega arith)
 
+-- the same bytes, read the same way
+pub same_reading : {sig sig' : Sig} {vs vs' xs xs' : List ℕ} (ty p : ℕ) → sig ≡ sig' → vs ≡ vs' → xs ≡ xs' → verdict (reading sig vs ty p xs) ≡ verdict (reading sig' vs' ty p xs')
+same_reading ty p a b c = cc
+
 module _ {B C : Type 0} (k : Result B Fault) (g : Term → B → C) where
   kept : (k : Result B Fault) (t : Term) → fault_of (and_then k (λ x. Ok (g t x))) ≡ fault_of k
   kept (Ok x) t = refl

@@ -176,28 +176,9 @@ by_types bs raw f e t = then_ok (λ r. and_then (types_in r) (λ _. terms_in r))
 pub by_terms : (bs : List ℕ) (raw : Raw) → records bs ≡ Ok raw → Ok tt ≡ types_in raw → verdict bs ≡ terms_in raw
 by_terms bs raw e t = then_ok (λ r. and_then (types_in r) (λ _. terms_in r)) e ∙ ap (λ x. and_then x (λ _. terms_in raw)) (sym t)
 
--- A part of a table from its start is its front, as the code writes it.
-from_start : (n : ℕ) → n ≡ n - 0
-from_start n = omega arith
-
-pub declares_part : (r : Raw) (types : List Datatype) (functions : List Callable) (unknowns : List ℕ) (n m k s : ℕ)
-    → Declares r (take n types) (take m functions) (take k unknowns) s → Declares r (take (n - 0) types) (take (m - 0) functions) (take (k - 0) unknowns) s
-declares_part r types functions unknowns n m k s h =
-    subst (λ x. Declares r (take x types) (take (m - 0) functions) (take (k - 0) unknowns) s) (from_start n)
-    (subst (λ x. Declares r (take n types) (take x functions) (take (k - 0) unknowns) s) (from_start m)
-    (subst (λ x. Declares r (take n types) (take m functions) (take x unknowns) s) (from_start k) h))
-
-pub locates_part : (bs : List ℕ) (r : Raw) (functions : List Callable) (goals : List Span) (m g : ℕ)
-    → Locates bs r (take m functions) (take g goals) → Locates bs r (take (m - 0) functions) (take (g - 0) goals)
-locates_part bs r functions goals m g h =
-    subst (λ x. Locates bs r (take x functions) (take (g - 0) goals)) (from_start m) (subst (λ x. Locates bs r (take m functions) (take x goals)) (from_start g) h)
-
 -- the front of a table of which the front was written
 pub front_written : (n : ℕ) (xs ys : List ℕ) → length xs ≡ n → take n (xs ++ ys) ≡ xs
 front_written n xs ys e = ap (λ m. take m (xs ++ ys)) (sym e) ∙ (take-append-le (length xs) xs ys (omega arith) ∙ take-length xs)
-
-pub same_fronts : {A : Type 0} (n : ℕ) (xs : List ℕ) (ys : List A) → n ≤ length xs → n ≤ length ys → length (take (n - 0) xs) ≡ length (take (n - 0) ys)
-same_fronts n xs ys a b = let p = length-take (n - 0) xs in let q = length-take (n - 0) ys in omega arith
 
 -- the declarations that tables hold are those of the records
 pub declared_same : (r : Raw) (types : List Datatype) (functions : List Callable) (unknowns : List ℕ) (s : ℕ) → Declares r types functions unknowns s
@@ -207,9 +188,9 @@ declared_same r types functions unknowns s h =
     ∙ (ap (λ fs. record { types = bool ∷ r.types; functions = fs; unknowns = unknowns }) h.of_functions
     ∙ ap (λ us. record { types = bool ∷ r.types; functions = map (λ f. f.profile) r.functions; unknowns = us }) h.of_unknowns)
 
--- least depths that were written into the front of a table
-pub leasts_written : (S T : Sig) (n : ℕ) (xs ys zs : List ℕ) → S ≡ T → length xs ≡ length (take (n - 0) zs) → n ≤ length zs → Leasts S xs → Leasts T (take n (xs ++ ys))
-leasts_written S T n xs ys zs same long fits h =
-    let short = length-take (n - 0) zs in
-    let all : length xs ≡ n = omega arith in
-    subst (Leasts T) (sym (front_written n xs ys all)) (subst (λ s. Leasts s xs) same h)
+-- least depths at the front of their table, as many as there are types
+pub leasts_front : {A : Type 0} (S T : Sig) (n : ℕ) (ts : List A) (xs : List ℕ) → S ≡ T → n ≤ length ts → Leasts S (take (length (take n ts)) xs) → Leasts T (take n xs)
+leasts_front S T n ts xs same fits h =
+    let short = length-take n ts in
+    let all : length (take n ts) ≡ n = omega arith in
+    subst (λ k. Leasts T (take k xs)) all (subst (λ s. Leasts s (take (length (take n ts)) xs)) same h)

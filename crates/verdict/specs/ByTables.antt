@@ -1,5 +1,5 @@
 -- The same looks at types and terms, over the tables in which the records stand. Assumes nothing.
-use Rattle.std.specs.Prelude.{◌≡◌, ℕ, ◌<◌, ◌≤◌, List, [], ◌∷◌, length, get_or, Ok, Err, Result, slice_index_or}
+use Rattle.std.specs.Prelude.{◌≡◌, ℕ, ◌<◌, ◌≤◌, List, [], ◌∷◌, length, take, get_or, Ok, Err, Result, slice_index_or}
 use Rattle.syntax.specs.declared.faults.Fault.{Fault}
 use Rattle.syntax.specs.declared.tables.Callable.{Callable}
 use Rattle.syntax.specs.declared.tables.Signature.{Signature}
@@ -46,4 +46,4 @@ FitGoals bs gs = (k : ℕ) (g : Span) → k < length gs → Inside bs (slice_ind
 -- of the records that the tables hold, the types are looked at, and the least depths are right where no fault was found
 pub record TypesLookedAt (sig : Signature) (start : ℕ) (least : List ℕ) (r : Result (Unit {0}) Fault) : Type 0 where
   pub exact : (raw : Raw) → Declares raw sig.types.now sig.functions.now sig.unknowns.now start → r ≡ types_in raw
-  pub leasts : r ≡ Ok tt → Leasts (declared_in sig) least
+  pub leasts : r ≡ Ok tt → Leasts (declared_in sig) (take (length sig.types.now) least)

@@ -4,52 +4,19 @@ ghost use Rattle.verdict.specs.Exact.{Says, VerdictIsExact};
 ghost use Rattle.verdict.specs.Verdict.{verdict, checked};
 
 use crate::examine::examine;
+use crate::workspace::Workspace;
 use syntax::faults::Fault;
-use syntax::tables::{Callable, Datatype, Span, TypeList};
-use terms::tasks::Task;
+use terms::tasks::Stack;
 
-const NO_TYPES: TypeList = TypeList {
-    count: 0,
-    types: [0; 6],
-};
-
-const NO_TYPE: Datatype = Datatype {
-    at: 0,
-    count: 0,
-    constructors: [NO_TYPES; 16],
-};
-
-const NOWHERE: Span = Span { start: 0, len: 0 };
-
-const NO_FUNCTION: Callable = Callable {
-    at: 0,
-    params: NO_TYPES,
-    result: 0,
-    body: NOWHERE,
-};
-
-const NO_TASK: Task = Task::Two { ty: 0, cut: 0 };
-
-// The check, with working memory for its tasks. The tables have room for all that the format allows.
-fn check_with(bytes: &[u8], tasks: &mut [Task]) -> Result<(), Fault>
-    requires { length bytes.now ≤ 16384 → length bytes.now + 1 ≤ length tasks.old }
+// The check, with room for N tasks. The tables have room for all that the format allows.
+fn check_with<const N: usize>(bytes: &[u8]) -> Result<(), Fault>
+    requires room { length bytes.now ≤ 16384 → length bytes.now + 1 ≤ N }
+    requires memory { N ≤ 16385 }
     ensures exact { result ≡ checked (verdict bytes.now) }
     ensures says { Says bytes.now result }
 {
-    let mut types = [NO_TYPE; 32];
-    let mut functions = [NO_FUNCTION; 64];
-    let mut unknowns = [0; 16];
-    let mut goals = [NOWHERE; 32];
-    let mut least = [0; 32];
-    examine(
-        bytes,
-        &mut types,
-        &mut functions,
-        &mut unknowns,
-        &mut goals,
-        &mut least,
-        tasks,
-    )?;
+    let mut tasks: Stack<N> = Stack::new();
+    examine(bytes, &mut Workspace::new(), &mut tasks)?;
     Ok(())
 }
 
@@ -61,13 +28,10 @@ pub fn check(bytes: &[u8]) -> Result<(), Fault>
     ensures decodes { VerdictIsExact }
 {
     if bytes.len() < 1056 {
-        let mut tasks = [NO_TASK; 1056];
-        check_with(bytes, &mut tasks)
+        check_with::<1056>(bytes)
     } else if bytes.len() < 4128 {
-        let mut tasks = [NO_TASK; 4128];
-        check_with(bytes, &mut tasks)
+        check_with::<4128>(bytes)
     } else {
-        let mut tasks = [NO_TASK; 16385];
-        check_with(bytes, &mut tasks)
+        check_with::<16385>(bytes)
     }
 }

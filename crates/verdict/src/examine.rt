@@ -4,42 +4,34 @@ ghost use Rattle.verdict.specs.Examined.{Examined};
 
 use crate::checked_terms::check_terms;
 use crate::types::check_types;
+use crate::workspace::Workspace;
 use syntax::faults::Fault;
-use syntax::tables::{Callable, Datatype, Signature, Span};
+use syntax::tables::Signature;
 use tables::filling::{Counts, read_records};
-use terms::tasks::Task;
+use terms::tasks::Stack;
 
-// The tables are filled with what the records declare, `least` with each type's least depth; `tasks` is working memory.
-pub fn examine(
+// The tables are filled with what the records declare, and with each type's least depth; `tasks` is working memory.
+pub fn examine<const N: usize>(
     bytes: &[u8],
-    types: &mut [Datatype],
-    functions: &mut [Callable],
-    unknowns: &mut [u8],
-    goals: &mut [Span],
-    least: &mut [u8],
-    tasks: &mut [Task],
+    work: &mut Workspace,
+    tasks: &mut Stack<N>,
 ) -> Result<Counts, Fault>
-    requires types { 32 ≤ length types.old }
-    requires functions { 64 ≤ length functions.old }
-    requires unknowns { 16 ≤ length unknowns.old }
-    requires goals { 32 ≤ length goals.old }
-    requires least { 32 ≤ length least.old }
-    requires room { length bytes.now ≤ 16384 → length bytes.now + 1 ≤ length tasks.old }
-    ensures { Examined bytes.now types.new functions.new unknowns.new goals.new least.new result }
+    requires { length bytes.now ≤ 16384 → length bytes.now + 1 ≤ N }
+    ensures { Examined bytes.now work.new result }
 {
-    let counts = read_records(bytes, types, functions, unknowns, goals)?;
-    let (type_count, function_count, unknown_count, goal_count) = (
-        counts.types,
-        counts.functions,
-        counts.unknowns,
-        counts.goals,
-    );
+    let counts = read_records(
+        bytes,
+        &mut work.types,
+        &mut work.functions,
+        &mut work.unknowns,
+        &mut work.goals,
+    )?;
     let sig = Signature {
-        types: &types[0..type_count],
-        functions: &functions[0..function_count],
-        unknowns: &unknowns[0..unknown_count],
+        types: &work.types[..counts.types],
+        functions: &work.functions[..counts.functions],
+        unknowns: &work.unknowns[..counts.unknowns],
     };
-    check_types(sig, counts.start, &mut least[0..type_count])?;
-    check_terms(bytes, sig, &goals[0..goal_count], tasks)?;
+    check_types(sig, counts.start, &mut work.least)?;
+    check_terms(bytes, sig, &work.goals[..counts.goals], tasks)?;
     Ok(counts)
 }

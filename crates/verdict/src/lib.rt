@@ -5,3 +5,4 @@ pub mod check;
 pub mod checked_terms;
 pub mod examine;
 pub mod types;
+pub mod workspace;

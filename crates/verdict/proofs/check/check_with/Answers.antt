@@ -6,7 +6,7 @@ use Rattle.verdict.proofs.Accepting.{accepted_encodes}
 use Rattle.verdict.proofs.check.check_with.Goals as goal
 
 pub returns-in_err-examine : goal.returns-in_err-examine
-returns-in_err-examine c =
+returns-in_err-examine g c =
     let p = err_from_is_err_and c.from_residual.result c.from_residual.ensures.1 in
     let e = c.in_err-examine.ensures in
     record {
@@ -15,7 +15,7 @@ returns-in_err-examine c =
     }
 
 pub returns : goal.returns
-returns c =
+returns g c =
     let a = c.in_ok-examine.ensures in
     record {
       exact = sym (ap checked a.is);

@@ -1,6 +1,10 @@
-use Rattle.std.proofs.Common.{Err, ap, ◌∙◌}
+use Rattle.std.proofs.Common.{◌≡◌, Err, length, sym, ap, ◌∙◌, subst}
+use Rattle.std.proofs.lemmas.List.{length-take-le}
 use Rattle.declarations.proofs.Walks.{no_type}
 use Rattle.verdict.proofs.Results.{never_ok}
+use Rattle.syntax.specs.Tables.{declared_in}
+use Rattle.depths.specs.Least.{Leasts}
+use Rattle.verdict.proofs.Examining.{front_written}
 use Rattle.verdict.proofs.Looks.{types_undeclared, types_fine, types_deep}
 use Rattle.verdict.proofs.types.check_types.Goals as goal
 
@@ -22,7 +26,9 @@ returns-in-Some-least_depths c =
 
 pub returns-in-None : goal.returns-in-None
 returns-in-None c =
+    let n = length c.args.sig.types.now in
+    let written : length c.least_depths.new.least ≡ n = c.least_depths.auto.least ∙ length-take-le n c.args.least.now c.requires.long in
     record {
       exact = λ raw h. types_fine c.args.sig c.args.start raw h c.in_default.ensures c.in-None.ensures.first;
-      leasts = λ e. c.least_depths.ensures.each;
+      leasts = λ e. subst (Leasts (declared_in c.args.sig)) (sym (front_written n c.least_depths.new.least _ written)) c.least_depths.ensures.each;
     }
