@@ -124,6 +124,7 @@ impl<'a> Context<'a> {
     }
 
     // The first term of a task, and the rest of the task; none if it is a branch that would see over 64 variables.
+    #[inline(always)]
     pub fn open(&mut self, task: Task) -> Option<Opened>
         requires left { Left (declared_in self.old.sig) task }
         requires few { cut_of task ≤ 64 }
@@ -211,6 +212,7 @@ impl<'a> Context<'a> {
     }
 
     // A byte where a term is wanted: what has to come after it, if anything; none if the byte is refused.
+    #[inline(always)]
     pub fn read(&self, wanted: Wanted, b: u8) -> Option<Option<Task>>
         requires { wanted.cut ≤ 64 }
         ensures { Steps (declared_in self.now.sig) self.now.scope (item_of self.now.scope wanted) wanted.cut b result }

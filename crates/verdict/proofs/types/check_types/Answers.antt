@@ -1,6 +1,6 @@
 use Rattle.std.proofs.Common.{◌≡◌, Err, length, sym, ap, ◌∙◌, subst}
 use Rattle.std.proofs.lemmas.List.{length-take-le}
-use Rattle.declarations.proofs.Walks.{no_type}
+use Rattle.syntax.proofs.Entries.{no_datatype}
 use Rattle.verdict.proofs.Results.{never_ok}
 use Rattle.syntax.specs.Tables.{declared_in}
 use Rattle.depths.specs.Least.{Leasts}
@@ -20,7 +20,7 @@ returns-in-Some-least_depths c =
     record {
       exact =
           λ raw h. ap Err c.at-in-Some-least_depths.ensures
-          ∙ types_deep c.args.sig c.args.start raw h c.in_default.ensures c.in-Some-least_depths.t c.in-Some-least_depths.ensures.first no_type;
+          ∙ types_deep c.args.sig c.args.start raw h c.in_default.ensures c.in-Some-least_depths.t c.in-Some-least_depths.ensures.first no_datatype;
       leasts = λ e. never_ok e;
     }
 
