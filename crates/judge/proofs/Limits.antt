@@ -7,7 +7,7 @@ use Rattle.problem.specs.Meant.{held, meant}
 use Rattle.problem.proofs.Lawfulness.{is_encoded}
 
 pub lawful : (p : Problem) → Lawful (meant p)
-lawful p = (is_encoded (held p) p.accepted p.written).lawful
+lawful p = (is_encoded (held p) p.holds.accepted p.holds.written).lawful
 
 few_in : (sig : Sig) (cs : List (List ℕ)) (c : ℕ) → Each (FewTypes sig) cs → length (get_or cs c []) ≤ 6
 few_in sig [] c e = omega arith

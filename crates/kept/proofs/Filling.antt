@@ -15,6 +15,7 @@ use Rattle.reading.specs.Reading.{reading}
 use Rattle.reading.proofs.Verdicts.{reading_is_exact_lem}
 use Rattle.depths.specs.Least.{Leasts}
 use Rattle.verdict.specs.Verdict.{verdict, problem_in, term_in, bodies_in, goals_in, terms_in}
+use Rattle.verdict.specs.declared.workspace.Workspace.{Workspace}
 use Rattle.verdict.specs.Examined.{Accepted}
 use Rattle.verdict.proofs.Results.{was_ok, term_was}
 use Rattle.verdict.proofs.Bodies.{with_body, bodies_sound}
@@ -101,17 +102,16 @@ is_read : (bs : List ℕ) (p : Problem) → verdict bs ≡ Ok p → read_from bs
 unfolding read_from
 is_read bs p e = ap problem_in e
 
-pub filled : (bs : List ℕ) (types : List Datatype) (functions : List Callable) (unknowns : List ℕ) (goals : List Span) (least : List ℕ) (n : Counts)
-    → Accepted bs types functions unknowns goals least n
-    → Filled bs (take n.types types) (take n.functions functions) (take n.unknowns unknowns) (take n.goals goals) (take n.types least)
-filled bs types functions unknowns goals least n a =
+pub filled : (bs : List ℕ) (w : Workspace) (n : Counts) → Accepted bs w n
+    → Filled bs (take n.types w.types) (take n.functions w.functions) (take n.unknowns w.unknowns) (take n.goals w.goals) (take n.types w.least)
+filled bs w n a =
     let r = a.raw in
     let p = a.problem in
     let is = is_read bs p a.is in
     let l = subst (Laid r) (sym is) (laid r p a.terms) in
     let d = a.tabled.declares in
     let at = a.tabled.locates in
-    let fs = take n.functions functions in
+    let fs = take n.functions w.functions in
     let profiles : map profile_in fs ≡ map (λ f. f.profile) (read_from bs).functions = d.of_functions ∙ sym l.profiles in
     let all = ap (λ ts. bool ∷ ts) (sym l.types) in
     let sigs : declared_by r ≡ sig_from bs =
@@ -135,7 +135,7 @@ filled bs types functions unknowns goals least n a =
       of_bodies = at.bodies_at ∙ l.bodies;
       of_unknowns = d.of_unknowns ∙ sym l.unknowns;
       of_goals = at.goals_at ∙ l.goals;
-      of_least = subst (λ s. Leasts s (take n.types least)) sigs a.leasts;
+      of_least = subst (λ s. Leasts s (take n.types w.least)) sigs a.leasts;
     }
 
 -- the declarations that filled tables make
@@ -149,12 +149,11 @@ declared_same s bs types functions unknowns goals least h ts fs us =
     ∙ ap (λ x. record { types = (sig_from bs).types; functions = (sig_from bs).functions; unknowns = x }) (us ∙ h.of_unknowns)
 
 -- copies of the fronts of examined tables
-pub holds_fronts : (bs : List ℕ) (types : List Datatype) (functions : List Callable) (unknowns : List ℕ) (goals : List Span) (least : List ℕ) (n : Counts) (t : Tables)
-    → Accepted bs types functions unknowns goals least n → Fronts types functions unknowns goals least n t → Holds bs t
-holds_fronts bs types functions unknowns goals least n t a f =
-    let h = filled bs types functions unknowns goals least n a in
-    let h₁ = subst (λ x. Filled bs x (take n.functions functions) (take n.unknowns unknowns) (take n.goals goals) (take n.types least)) (sym f.of_types) h in
-    let h₂ = subst (λ x. Filled bs (vec_items t.types) x (take n.unknowns unknowns) (take n.goals goals) (take n.types least)) (sym f.of_functions) h₁ in
-    let h₃ = subst (λ x. Filled bs (vec_items t.types) (vec_items t.functions) x (take n.goals goals) (take n.types least)) (sym f.of_unknowns) h₂ in
-    let h₄ = subst (λ x. Filled bs (vec_items t.types) (vec_items t.functions) (vec_items t.unknowns) x (take n.types least)) (sym f.of_goals) h₃ in
+pub holds_fronts : (bs : List ℕ) (w : Workspace) (n : Counts) (t : Tables) → Accepted bs w n → Fronts w n t → Holds bs t
+holds_fronts bs w n t a f =
+    let h = filled bs w n a in
+    let h₁ = subst (λ x. Filled bs x (take n.functions w.functions) (take n.unknowns w.unknowns) (take n.goals w.goals) (take n.types w.least)) (sym f.of_types) h in
+    let h₂ = subst (λ x. Filled bs (vec_items t.types) x (take n.unknowns w.unknowns) (take n.goals w.goals) (take n.types w.least)) (sym f.of_functions) h₁ in
+    let h₃ = subst (λ x. Filled bs (vec_items t.types) (vec_items t.functions) x (take n.goals w.goals) (take n.types w.least)) (sym f.of_unknowns) h₂ in
+    let h₄ = subst (λ x. Filled bs (vec_items t.types) (vec_items t.functions) (vec_items t.unknowns) x (take n.types w.least)) (sym f.of_goals) h₃ in
     subst (λ x. Filled bs (vec_items t.types) (vec_items t.functions) (vec_items t.unknowns) (vec_items t.goals) x) (sym f.of_least) h₄

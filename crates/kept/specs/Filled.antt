@@ -10,6 +10,7 @@ use Rattle.syntax.specs.Problems.{encode_problem}
 use Rattle.tables.specs.declared.filling.Counts.{Counts}
 use Rattle.depths.specs.Least.{Leasts}
 use Rattle.depths.specs.Needs.{need_by, Filled as By-rows}
+use Rattle.verdict.specs.declared.workspace.Workspace.{Workspace}
 use Rattle.verdict.specs.Verdict.{verdict}
 use Rattle.kept.specs.Layout.{read_from, sig_from, body_places, goal_places}
 use Rattle.kept.specs.declared.record_tables.Tables.{Tables}
@@ -36,18 +37,17 @@ pub record NeedsHeld (sig : Sig) (least : List ℕ) (rows : List (List ℕ)) : T
   pub by : By-rows (need_by sig least) rows
   pub each : Leasts sig least → (t c : ℕ) → (t < length rows) × (c < 16) → slice_index (slice_index_or rows t []) c ≡ need_of sig t c
 
--- the tables are the fronts of these
-pub record Fronts (types : List Datatype) (functions : List Callable) (unknowns : List ℕ) (goals : List Span) (least : List ℕ) (n : Counts) (t : Tables) : Type 0 where
-  pub of_types : vec_items t.types ≡ take n.types types
-  pub of_functions : vec_items t.functions ≡ take n.functions functions
-  pub of_unknowns : vec_items t.unknowns ≡ take n.unknowns unknowns
-  pub of_goals : vec_items t.goals ≡ take n.goals goals
-  pub of_least : vec_items t.least ≡ take n.types least
+-- the tables are the fronts of a workspace's
+pub record Fronts (w : Workspace) (n : Counts) (t : Tables) : Type 0 where
+  pub of_types : vec_items t.types ≡ take n.types w.types
+  pub of_functions : vec_items t.functions ≡ take n.functions w.functions
+  pub of_unknowns : vec_items t.unknowns ≡ take n.unknowns w.unknowns
+  pub of_goals : vec_items t.goals ≡ take n.goals w.goals
+  pub of_least : vec_items t.least ≡ take n.types w.least
 
--- the fronts lie within the tables
-pub record Counted (types : List Datatype) (functions : List Callable) (unknowns : List ℕ) (goals : List Span) (least : List ℕ) (n : Counts) : Type 0 where
-  pub of_types : n.types ≤ length types
-  pub of_functions : n.functions ≤ length functions
-  pub of_unknowns : n.unknowns ≤ length unknowns
-  pub of_goals : n.goals ≤ length goals
-  pub of_least : n.types ≤ length least
+-- the fronts lie within the tables of a workspace
+pub record Counted (n : Counts) : Type 0 where
+  pub of_types : n.types ≤ 32
+  pub of_functions : n.functions ≤ 64
+  pub of_unknowns : n.unknowns ≤ 16
+  pub of_goals : n.goals ≤ 32

@@ -1,5 +1,11 @@
 // What the records of an accepted problem declare, each table as long as what it holds.
-use syntax::tables::{Callable, Datatype, Span};
+ghost use Rattle.std.specs.Prelude.{◌≡◌, IfOk};
+ghost use Rattle.kept.specs.Filled.{Counted, Fronts};
+
+use std::alloc::{AllocError, Global};
+use syntax::tables::{Callable, Datatype, Signature, Span};
+use tables::filling::Counts;
+use verdict::workspace::Workspace;
 
 #[derive(Drop)]
 pub struct Tables {
@@ -8,4 +14,33 @@ pub struct Tables {
     pub unknowns: Vec<u8>,
     pub goals: Vec<Span>,
     pub least: Vec<u8>,
+}
+
+impl Tables {
+    // Copies of the fronts of an examination's tables.
+    pub fn copied(heap: Global, work: &Workspace, counts: Counts) -> Result<Tables, AllocError>
+        requires { Counted counts }
+        ensures { IfOk result (λ t. Fronts work.now counts t) }
+    {
+        Ok(Tables {
+            types: Vec::from_slice(heap, &work.types[..counts.types])?,
+            functions: Vec::from_slice(heap, &work.functions[..counts.functions])?,
+            unknowns: Vec::from_slice(heap, &work.unknowns[..counts.unknowns])?,
+            goals: Vec::from_slice(heap, &work.goals[..counts.goals])?,
+            least: Vec::from_slice(heap, &work.least[..counts.types])?,
+        })
+    }
+
+    // The tables as declarations.
+    pub fn signature(&self) -> Signature<'_>
+        ensures types { result.types.now ≡ self.now.types.items }
+        ensures functions { result.functions.now ≡ self.now.functions.items }
+        ensures unknowns { result.unknowns.now ≡ self.now.unknowns.items }
+    {
+        Signature {
+            types: self.types.as_slice(),
+            functions: self.functions.as_slice(),
+            unknowns: self.unknowns.as_slice(),
+        }
+    }
 }

@@ -7,7 +7,7 @@ use Rattle.syntax.specs.Tables.{listed, cases_in}
 use Rattle.syntax.specs.Typing.{Sig}
 use Rattle.syntax.specs.Values.{OfType, of_type, Value}
 use Rattle.syntax.specs.Least.{least_of}
-use Rattle.reading.proofs.Tables.{no_list, no_datatype, constructor_at}
+use Rattle.syntax.proofs.Entries.{no_list, no_datatype, constructor_at}
 use Rattle.depths.proofs.Entries.{cases_at}
 use Rattle.depths.proofs.Leasts.{least_is_least}
 use Rattle.ends.specs.Ends.{hop}

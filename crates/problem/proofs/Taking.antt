@@ -24,7 +24,7 @@ refused (Err f) e = refl
 
 pub taken_accepted : (bs : List ℕ) (p : Problem) → held p ≡ bs → Taken bs p
 taken_accepted bs p same =
-    let ok : is_ok (verdict bs) ≡ true = ap (λ b. is_ok (verdict b)) (sym same) ∙ p.accepted in
+    let ok : is_ok (verdict bs) ≡ true = ap (λ b. is_ok (verdict b)) (sym same) ∙ p.holds.accepted in
     let means = ap read_from same ∙ reads_decoded bs in
     record {
       keeps = same ∙ sym (ap (λ b. cond b bs encode_end) ok);

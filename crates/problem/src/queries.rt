@@ -11,11 +11,8 @@ ghost use Rattle.problem.specs.Views.{view_by, view_at, AlwaysShows};
 
 use crate::problem::Problem;
 use crate::view::View;
-use declarations::types_in;
-use reading::lookup;
-use reading::lookup::{cases, size};
 use reading::parts::Tag;
-use syntax::tables::{Signature, TypeList};
+use syntax::tables::Signature;
 
 // The least depth that stands for a type without a value no deeper than 8.
 const NO_VALUE: u8 = 9;
@@ -25,11 +22,7 @@ impl Problem {
     fn declared(&self) -> Signature<'_>
         ensures { declared_in result ≡ sig self.now }
     {
-        Signature {
-            types: self.types.as_slice(),
-            functions: self.functions.as_slice(),
-            unknowns: self.unknowns.as_slice(),
-        }
+        self.tables.signature()
     }
 
     // The bytes of the problem: the encoding of what it means, which is lawful.
@@ -44,37 +37,29 @@ impl Problem {
     pub fn types(&self) -> usize
         ensures { result ≡ length (sig self.now).types }
     {
-        self.types.len()
+        self.tables.types.len()
     }
 
     // How many constructors a type has.
     pub fn constructors(&self, t: u8) -> u8
         ensures { result ≡ constructors_of (sig self.now) t }
     {
-        cases(self.declared(), t)
+        self.declared().case_count(t)
     }
 
     // The types of a constructor's arguments.
     pub fn arguments(&self, t: u8, c: u8) -> &[u8]
         ensures { result.now ≡ arguments_of (sig self.now) t c }
     {
-        if c >= self.constructors(t) {
-            return &[];
-        }
-        let types = self.types.as_slice();
-        let constructors: &[TypeList] = &types[t as usize].constructors;
-        types_in(&constructors[c as usize])
+        self.declared().arguments(t, c)
     }
 
     // The least depth of a type's values, 9 where there is no such type.
     pub fn least(&self, t: u8) -> u8
         ensures { result ≡ least_of (sig self.now) t }
     {
-        if (t as usize) < self.least.len() {
-            self.least[t as usize]
-        } else {
-            NO_VALUE
-        }
+        let least = self.tables.least.get(usize::from(t));
+        least.map_or(NO_VALUE, |depth| *depth)
     }
 
     // What a constructor needs, and for no such constructor what a constant needs.
@@ -84,36 +69,31 @@ impl Problem {
         if c >= self.constructors(t) {
             return 1;
         }
-        let row = self.needs[t as usize];
-        row[c as usize]
+        let row = self.needs[usize::from(t)];
+        row[usize::from(c)]
     }
 
     // How many functions there are.
     pub fn functions(&self) -> usize
         ensures { result ≡ length (meant self.now).functions }
     {
-        self.functions.len()
+        self.tables.functions.len()
     }
 
     // The types of a function's parameters.
     pub fn params(&self, f: u8) -> &[u8]
         ensures { result.now ≡ params_of (sig self.now) f }
     {
-        if f as usize >= self.functions.len() {
-            return &[];
-        }
-        let functions = self.functions.as_slice();
-        types_in(&functions[f as usize].params)
+        self.declared().params(f)
     }
 
     // The type of a function's result, Bool where there is no such function.
     pub fn result(&self, f: u8) -> u8
         ensures { result ≡ result_of (sig self.now) f }
     {
-        if (f as usize) < self.functions.len() {
-            self.functions[f as usize].result
-        } else {
-            0
+        match self.tables.functions.get(usize::from(f)) {
+            Some(function) => function.result,
+            None => 0,
         }
     }
 
@@ -122,10 +102,9 @@ impl Problem {
         ensures is { result ≡ slice_index_or (body_places (meant self.now)) f (length (held self.now)) }
         ensures stands { BodyStands self.now f result }
     {
-        if (f as usize) < self.functions.len() {
-            self.functions[f as usize].body.start
-        } else {
-            self.bytes.len()
+        match self.tables.functions.get(usize::from(f)) {
+            Some(function) => function.body.start,
+            None => self.bytes.len(),
         }
     }
 
@@ -133,14 +112,14 @@ impl Problem {
     pub fn unknowns(&self) -> &[u8]
         ensures { result.now ≡ (meant self.now).unknowns }
     {
-        self.unknowns.as_slice()
+        self.tables.unknowns.as_slice()
     }
 
     // How many goals there are.
     pub fn goals(&self) -> usize
         ensures { result ≡ length (meant self.now).goals }
     {
-        self.goals.len()
+        self.tables.goals.len()
     }
 
     // The place of a goal's term, the end of the bytes where there is no such goal.
@@ -148,10 +127,9 @@ impl Problem {
         ensures is { result ≡ slice_index_or (goal_places (meant self.now)) g (length (held self.now)) }
         ensures stands { GoalStands self.now g result }
     {
-        if g < self.goals.len() {
-            self.goals[g].start
-        } else {
-            self.bytes.len()
+        match self.tables.goals.get(g) {
+            Some(goal) => goal.start,
+            None => self.bytes.len(),
         }
     }
 
@@ -160,10 +138,9 @@ impl Problem {
         ensures is { result ≡ hop (ends self.now) place }
         ensures after { ComesAfter self.now place result }
     {
-        if place < self.next.len() {
-            self.next[place] as usize
-        } else {
-            place
+        match self.next.get(place) {
+            Some(next) => usize::from(*next),
+            None => place,
         }
     }
 
@@ -171,11 +148,7 @@ impl Problem {
     fn byte(&self, place: usize) -> u8
         ensures { result ≡ slice_index (held self.now) place }
     {
-        if place < self.bytes.len() {
-            self.bytes[place]
-        } else {
-            0
-        }
+        self.bytes.get(place).map_or(0, |byte| *byte)
     }
 
     // The head of a term at a place, by its tag.
@@ -192,13 +165,13 @@ impl Problem {
                 View::Constructor {
                     ty: a,
                     constructor,
-                    arity: size(&lookup::constructor(self.declared(), a, constructor)),
+                    arity: self.declared().arguments(a, constructor).len() as u8,
                     arguments: place + 3,
                 }
             }
             Tag::Call => View::Call {
                 function: a,
-                arity: size(&lookup::parameters(self.declared(), a)),
+                arity: self.declared().params(a).len() as u8,
                 arguments: place + 2,
             },
             Tag::Case => View::Case {
@@ -224,7 +197,7 @@ impl Problem {
         ensures shows { AlwaysShows (sig self.now) (held self.now) (ends self.now) place result }
     {
         if place < self.bytes.len() {
-            self.view_by(place, Tag::of(self.byte(place)))
+            self.view_by(place, Tag::from(self.byte(place)))
         } else {
             View::Nothing
         }

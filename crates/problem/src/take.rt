@@ -10,35 +10,19 @@ use crate::problem::Problem;
 use kept::fill::{ends_table, examined, needs_table};
 use kept::record_tables::Tables;
 use std::alloc::{AllocError, Global};
-use syntax::tables::Signature;
 
 // The problem whose tables these are.
 fn worked_out(heap: Global, bytes: &[u8], tables: Tables) -> Result<Problem, AllocError>
     requires { Holds bytes.now tables }
     ensures { IfOk result (λ p. held p ≡ bytes.now) }
 {
-    let sig = Signature {
-        types: tables.types.as_slice(),
-        functions: tables.functions.as_slice(),
-        unknowns: tables.unknowns.as_slice(),
-    };
+    let sig = tables.signature();
     let needs = needs_table(heap, sig, tables.least.as_slice())?;
     let next = ends_table(heap, bytes, sig)?;
     let bytes = Vec::from_slice(heap, bytes)?;
-    let Tables {
-        types,
-        functions,
-        unknowns,
-        goals,
-        least,
-    } = tables;
     Ok(Problem {
         bytes,
-        types,
-        functions,
-        unknowns,
-        goals,
-        least,
+        tables,
         needs,
         next,
     })
@@ -48,13 +32,10 @@ fn worked_out(heap: Global, bytes: &[u8], tables: Tables) -> Result<Problem, All
 fn accepted(heap: Global, bytes: &[u8]) -> Result<Option<Problem>, AllocError>
     ensures { IfOk result (λ o. MatchOption o (is_ok (verdict bytes.now) ≡ false) (λ p. held p ≡ bytes.now)) }
 {
-    match examined(heap, bytes)? {
-        Some(tables) => {
-            let problem = worked_out(heap, bytes, tables)?;
-            Ok(Some(problem))
-        }
-        None => Ok(None),
-    }
+    let Some(tables) = examined(heap, bytes)? else {
+        return Ok(None);
+    };
+    Ok(Some(worked_out(heap, bytes, tables)?))
 }
 
 // The problem without declarations and goals, whose bytes are the end record alone.

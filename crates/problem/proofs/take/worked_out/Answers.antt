@@ -1,6 +1,5 @@
-use Rattle.std.proofs.Common.{◌≡◌, length, vec_items, sym, ap, ◌∙◌, subst, arith}
+use Rattle.std.proofs.Common.{◌≡◌, length, vec_items, sym, ap, ◌∙◌, subst}
 use Rattle.std.proofs.lemmas.List.{length-map}
-use Rattle.syntax.specs.declared.tables.Signature.{Signature}
 use Rattle.syntax.specs.Tables.{cases_in, declared_in}
 use Rattle.depths.specs.Least.{Leasts}
 use Rattle.ends.specs.Ends.{ends_of}
@@ -16,26 +15,15 @@ invariant_of-result c =
     let own = vec_items c.in_ok-bytes.bytes in
     let same : own ≡ c.args.bytes.now = c.in_ok-bytes.ensures.items in
     let h = subst (λ b. Filled b (vec_items t.types) (vec_items t.functions) (vec_items t.unknowns) (vec_items t.goals) (vec_items t.least)) (sym same) c.requires in
-    let s : Signature = record { types = c.as_slice.result; functions = c.as_slice-2.result; unknowns = c.as_slice-3.result } in
+    let s = c.signature-sig.result in
+    let e = c.signature-sig.ensures in
     let sigs : declared_in s ≡ sig_from own =
-    declared_same s own (vec_items t.types) (vec_items t.functions) (vec_items t.unknowns) (vec_items t.goals) (vec_items t.least) h
-    c.as_slice.ensures.value c.as_slice-2.ensures.value c.as_slice-3.ensures.value in
-    let least = sym c.as_slice-4.ensures.value in
-    let rows = subst (λ g. NeedsHeld g c.as_slice-4.result.now (vec_items c.in_ok-needs.needs)) sigs c.in_ok-needs.ensures in
+    declared_same s own (vec_items t.types) (vec_items t.functions) (vec_items t.unknowns) (vec_items t.goals) (vec_items t.least) h e.types e.functions e.unknowns in
+    let least = sym c.as_slice.ensures.value in
+    let rows = subst (λ g. NeedsHeld g c.as_slice.result.now (vec_items c.in_ok-needs.needs)) sigs c.in_ok-needs.ensures in
     let all = sym (length-map (vec_items t.types) cases_in) ∙ ap length h.of_types in
     record {
-      short = h.short;
-      accepted = h.accepted;
-      written = h.written;
-      types_held = h.of_types;
-      few_cases = h.few_cases;
-      params_held = h.of_params;
-      results_held = h.of_results;
-      bodies_held = h.of_bodies;
-      unknowns_held = h.of_unknowns;
-      goals_held = h.of_goals;
-      least_long = h.of_least.long ∙ sym all;
-      least_held = λ k lt. h.of_least.each k (let l = h.of_least.long in omega arith);
+      holds = h;
       needs_long = rows.long ∙ sym all;
       needs_held = rows.each (subst (Leasts (sig_from own)) least h.of_least);
       next_held = c.in_ok-next.ensures ∙ ap (λ b. ends_of (declared_in s) b) (sym same) ∙ ap (λ g. ends_of g own) sigs;

@@ -8,4 +8,4 @@ pub returns : goal.returns
 returns c =
     let p = c.args.self.now in
     let is = c.as_slice.ensures.value in
-    record { is = is; encodes = subst (Encodes (meant p)) (sym is) (is_encoded (held p) p.accepted p.written) }
+    record { is = is; encodes = subst (Encodes (meant p)) (sym is) (is_encoded (held p) p.holds.accepted p.holds.written) }

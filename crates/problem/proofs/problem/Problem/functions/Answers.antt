@@ -6,5 +6,5 @@ use Rattle.problem.proofs.problem.Problem.functions.Goals as goal
 pub returns : goal.returns
 returns c =
     let p = c.args.self.now in
-    c.len.ensures ∙ p.functions.ok.0
-    ∙ same_length (λ f. f.result) (λ f. f.profile.result) (vec_items p.functions) (meant p).functions p.results_held
+    c.len.ensures ∙ p.tables.functions.ok.0
+    ∙ same_length (λ f. f.result) (λ f. f.profile.result) (vec_items p.tables.functions) (meant p).functions p.holds.of_results

@@ -9,5 +9,5 @@ use Rattle.problem.proofs.problem.Problem.goals.Goals as goal
 pub returns : goal.returns
 returns c =
     let p = c.args.self.now in
-    c.len.ensures ∙ p.goals.ok.0 ∙ sym (length-map (vec_items p.goals) (λ g. g.start)) ∙ ap length p.goals_held
+    c.len.ensures ∙ p.tables.goals.ok.0 ∙ sym (length-map (vec_items p.tables.goals) (λ g. g.start)) ∙ ap length p.holds.of_goals
     ∙ length_places goal_from encode_goal (goals_from (meant p)) (meant p).goals

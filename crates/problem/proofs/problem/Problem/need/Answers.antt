@@ -1,4 +1,4 @@
-use Rattle.std.proofs.Common.{◌+◌, ◌<◌, [], length, get_or, vec_items, sym, ap, ◌∙◌, arith}
+use Rattle.std.proofs.Common.{◌≡◌, ◌+◌, ◌<◌, [], length, get_or, vec_items, sym, ap, ◌∙◌, subst, arith}
 use Rattle.std.proofs.lemmas.List.{get_or_past, get_or_read}
 use Rattle.syntax.specs.Typing.{cases_of}
 use Rattle.syntax.specs.Least.{greatest, least_of}
@@ -14,7 +14,7 @@ returns-then-c-constructors c =
 pub index-requires : goal.index-requires
 index-requires c =
     let p = c.args.self.now in
-    let low = type_there (vec_items p.types) (sig p).types c.args.t c.args.c p.types_held (omega arith) in
+    let low = type_there (vec_items p.tables.types) (sig p).types c.args.t c.args.c p.holds.of_types (omega arith) in
     let long = p.needs.ok.0 in
     let same = p.needs_long in
     omega arith
@@ -22,9 +22,11 @@ index-requires c =
 pub returns : goal.returns
 returns c =
     let p = c.args.self.now in
-    let low = type_there (vec_items p.types) (sig p).types c.args.t c.args.c p.types_held (omega arith) in
+    let low = type_there (vec_items p.tables.types) (sig p).types c.args.t c.args.c p.holds.of_types (omega arith) in
     let same = p.needs_long in
-    let few = p.few_cases c.args.t in
+    let few = p.holds.few_cases c.args.t in
     let there : c.args.t < length (vec_items p.needs) = omega arith in
-    ap (λ row. get_or row c.args.c 0) (get_or_read (vec_items p.needs) c.args.t c.index.result.now there c.index.ensures [])
+    let row : c.index.result.now ≡ get_or (vec_items p.needs) c.args.t c.index.result.now = subst (λ i. c.index.result.now ≡ get_or (vec_items p.needs) i c.index.result.now) c.from.ensures c.index.ensures in
+    ap (λ i. get_or c.index.result.now i 0) c.from-2.ensures
+    ∙ ap (λ row. get_or row c.args.c 0) (get_or_read (vec_items p.needs) c.args.t c.index.result.now there row [])
     ∙ p.needs_held c.args.t c.args.c (there, omega arith)

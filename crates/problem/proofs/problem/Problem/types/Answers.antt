@@ -6,4 +6,4 @@ use Rattle.problem.proofs.problem.Problem.types.Goals as goal
 pub returns : goal.returns
 returns c =
     let p = c.args.self.now in
-    c.len.ensures ∙ p.types.ok.0 ∙ sym (length-map (vec_items p.types) cases_in) ∙ ap length p.types_held
+    c.len.ensures ∙ p.tables.types.ok.0 ∙ sym (length-map (vec_items p.tables.types) cases_in) ∙ ap length p.holds.of_types

@@ -15,7 +15,7 @@ returns-then-place-len c =
     let low : q < length (held p) = omega arith in
     let by = λ (g : Tag). view_by (sig p) (ends p) q g (get_or (held p) (q + 1) 0) (get_or (held p) (q + 2) 0) in
     let is : c.view_by.result ≡ view_at (sig p) (held p) (ends p) q =
-    c.view_by.ensures ∙ ap by c.of.ensures ∙ ap (λ b. by (tag_of b)) c.byte.ensures
+    c.view_by.ensures ∙ ap by c.from.ensures ∙ ap (λ b. by (tag_of b)) c.byte.ensures
     ∙ sym (ap (λ b. cond b (by (tag_of (get_or (held p) q 0))) Nothing) (lt-ltb q (length (held p)) low)) in
     record { is = is; shows = views_show (sig p) (held p) q c.view_by.result is }
 
