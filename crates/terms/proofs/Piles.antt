@@ -1,5 +1,5 @@
 -- Tasks that are put on a pile, and taken from it. Assumes nothing.
-use Rattle.std.proofs.Common.{◌≡◌, ℕ, zero, suc, ◌+◌, ◌<◌, ◌≤◌, true, List, [], ◌∷◌, ◌++◌, map, length, take, drop, Some, None, Option, sym, refl, ap, ◌∙◌, subst, arith, append_assoc}
+use Rattle.std.proofs.Common.{◌≡◌, ℕ, zero, suc, ◌+◌, ◌<◌, ◌≤◌, List, [], ◌∷◌, ◌++◌, map, length, take, drop, Some, None, Option, sym, refl, ap, ◌∙◌, subst, arith}
 use Rattle.std.proofs.lemmas.List.{take-take}
 use Rattle.terms.specs.declared.tasks.Task.{Task}
 use Rattle.terms.specs.declared.tasks.Task.TheVariants.{One, Two, Arguments, Parameters, Case, Branches}
@@ -7,7 +7,7 @@ use Rattle.terms.specs.declared.tasks.Opened.{Opened}
 use Rattle.reading.specs.declared.parts.Part.TheVariants.{Start}
 use Rattle.syntax.specs.Typing.{Sig, Want, want, arguments, params_of, cases_of, each_of, branches_of}
 use Rattle.reading.specs.Reading.{Item, item, start, starts}
-use Rattle.terms.specs.Tasks.{item_of, expand, cut_of, Left, Fine, expand_rest, FineRest, Opens, Steps, put, stack_of, Piled, Advances}
+use Rattle.terms.specs.Tasks.{item_of, expand, cut_of, Left, expand_rest, FineRest, Opens, Steps, put, stack_of, Piled, Advances}
 
 -- the items of a task ask only for the variables below its cut
 expand_same : (sig : Sig) (s s' : List ℕ) (x : Task) → take (cut_of x) s' ≡ take (cut_of x) s → expand sig s' x ≡ expand sig s x

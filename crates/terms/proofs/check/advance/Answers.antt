@@ -1,6 +1,6 @@
 use Rattle.std.proofs.Common.{◌≡◌, ◌∷◌, Some, sym, ap, ◌∙◌, subst}
 use Rattle.syntax.specs.Tables.{declared_in}
-use Rattle.terms.specs.Tasks.{item_of, Steps, Opens, Piled, Advances, put}
+use Rattle.terms.specs.Tasks.{item_of, Steps, Piled, Advances, put}
 use Rattle.terms.proofs.Piles.{advances}
 use Rattle.terms.proofs.check.advance.Goals as goal
 

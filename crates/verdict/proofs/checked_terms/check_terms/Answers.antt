@@ -4,6 +4,7 @@ use Rattle.syntax.proofs.Entries.{no_callable}
 use Rattle.syntax.specs.Tables.{declared_in}
 use Rattle.verdict.proofs.Checks.{same_reading, body_passed, body_refused, bodies_done, goal_passed, goal_refused, goals_done, no_span, terms_passed, terms_refused}
 use Rattle.verdict.proofs.checked_terms.check_terms.Goals as goal
+
 pub returns-in_err-check_term : goal.returns-in_err-check_term
 returns-in_err-check_term g c =
     let sig = declared_in c.args.sig in

@@ -1,4 +1,4 @@
-use Rattle.std.proofs.Common.{◌≡◌, ◌+◌, ◌<◌, ◌≤◌, Err, get_or, length, ap, sym, ◌∙◌, subst, arith}
+use Rattle.std.proofs.Common.{◌≡◌, ◌+◌, ◌<◌, Err, get_or, length, ap, sym, ◌∙◌, subst, arith}
 use Rattle.syntax.specs.Tables.{declared_in}
 use Rattle.syntax.specs.Typing.{Sig}
 use Rattle.terms.specs.Tasks.{stack_of, Advances}

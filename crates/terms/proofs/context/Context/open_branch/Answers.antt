@@ -1,4 +1,4 @@
-use Rattle.std.proofs.Common.{◌≡◌, ℕ, ◌+◌, ◌<◌, ◌≤◌, List, [], ◌++◌, map, length, take, drop, ap, arith, length-append, rules}
+use Rattle.std.proofs.Common.{◌≡◌, ℕ, ◌+◌, List, [], ◌++◌, map, length, take, drop, ap, arith, length-append, rules}
 use Rattle.std.proofs.lemmas.List.{drop_more, length-take-le}
 use Rattle.syntax.specs.Typing.{want, cases_of, arguments}
 use Rattle.syntax.specs.Tables.{declared_in}
