@@ -2,9 +2,9 @@
 use Rattle.std.specs.Prelude.{◌≡◌, ℕ, ◌+◌, ◌≤◌, List, ◌∷◌, ◌++◌, length}
 use Rattle.records.specs.Raw.{RawFunction, write_function, Few}
 use Rattle.records.specs.Next.{lists_in, Lists}
-use Rattle.records.specs.declared.reader.TypeRecord.{TypeRecord}
-use Rattle.records.specs.declared.reader.FunctionRecord.{FunctionRecord}
-use Rattle.records.specs.declared.reader.GoalRecord.{GoalRecord}
+use Rattle.records.specs.declared.kinds.TypeRecord.{TypeRecord}
+use Rattle.records.specs.declared.kinds.FunctionRecord.{FunctionRecord}
+use Rattle.records.specs.declared.kinds.GoalRecord.{GoalRecord}
 
 abbrev pub cases_held : TypeRecord → List (List ℕ)
 cases_held x = lists_in x.count x.constructors.now

@@ -1,24 +1,61 @@
-// The next record of each kind, in the format's order. A refusal leaves the reader as it was.
-ghost use Rattle.std.specs.Prelude.{◌≡◌, IfOk};
-ghost use Rattle.syntax.specs.Problems.{encode_type, encode_unknown};
-ghost use Rattle.records.specs.Raw.{write_function, write_goal};
-ghost use Rattle.records.specs.Reading.{type_of, function_of, byte_of, part_of, end_of};
+// The next record of a kind. A refusal leaves the reader as it was.
+ghost use Rattle.std.specs.Prelude.{◌≡◌, ℕ, ◌+◌, List, ◌∷◌, ◌++◌, Result, IfOk};
+ghost use Rattle.syntax.specs.declared.faults.Fault.{Fault};
+ghost use Rattle.records.specs.Reading.{Read, end_of};
 ghost use Rattle.records.specs.Next.{next};
 ghost use Rattle.records.specs.Readers.{ahead_of, Takes, Hands, Enters};
-ghost use Rattle.records.specs.Handed.{cases_held, function_held, TypeHeld, FunctionRead, FunctionHeld, GoalHeld};
 
-use crate::reader::{FunctionRecord, GoalRecord, Reader, TypeRecord, UnknownRecord};
+use crate::reader::Reader;
 use syntax::faults::{Fault, Reason};
 
-// The most constructors that a type may have.
-const MOST_CONSTRUCTORS: u8 = 16;
+// The two bytes with which a record begins.
+#[derive(Clone, Copy)]
+pub struct Mark {
+    pub high: u8,
+    pub low: u8,
+}
+
+const END: Mark = Mark {
+    high: b'E',
+    low: b'N',
+};
+
+// A kind of record: its mark, and what stands behind it.
+pub trait Record<'a>: Sized {
+    ghost high: { ℕ };
+
+    ghost low: { ℕ };
+
+    // What a record says, how it is read from behind its mark, and how it is written, mark and all.
+    ghost Meaning: { Type 0 };
+
+    ghost meaning: { Self → Meaning };
+
+    ghost reading: { ℕ → List ℕ → ℕ → Result (Read Meaning) Fault };
+
+    ghost writing: { Meaning → List ℕ };
+
+    // Holds of a place and each record whose mark stands there.
+    ghost IsAt: { ℕ → Self → Type 0 };
+
+    fn mark() -> Mark
+        ensures high { result.high ≡ high }
+        ensures low { result.low ≡ low };
+
+    // Reads what stands behind the mark at this place.
+    fn read(reader: &mut Reader<'a>, mark: usize) -> Result<Self, Fault>
+        requires { reader.old.at ≡ mark + 2 }
+        ensures takes { Takes (reading mark (ahead_of reader.old) reader.old.at) meaning reader.old reader.new result }
+        ensures written { IfOk result (λ x. high ∷ (low ∷ ahead_of reader.old) ≡ writing (meaning x) ++ ahead_of reader.new) }
+        ensures is_at { IfOk result (IsAt mark) };
+}
 
 impl<'a> Reader<'a> {
     // Passes the mark, if it stands here. With room for no more records, it is one too many.
-    fn enter(&mut self, high: u8, low: u8, room: usize) -> Result<bool, Fault>
-        ensures { Enters self.old high low room self.new result }
+    fn enter(&mut self, mark: Mark, room: usize) -> Result<bool, Fault>
+        ensures { Enters self.old mark.high mark.low room self.new result }
     {
-        if !self.starts(high, low) {
+        if !self.starts(mark) {
             return Ok(false);
         }
         if room == 0 {
@@ -28,92 +65,25 @@ impl<'a> Reader<'a> {
         Ok(true)
     }
 
-    // The next type record; `room` is how many more there may be.
-    pub fn next_type(&mut self, room: usize) -> Result<Option<TypeRecord<'a>>, Fault>
-        ensures { Hands (next type_of 0x44 0x54 room (ahead_of self.old) self.old.at) cases_held encode_type (TypeHeld self.old.at) self.old self.new result }
+    // The next record of a kind, if its mark stands here; `room` is how many more there may be.
+    pub fn next<R: Record<'a>>(&mut self, room: usize) -> Result<Option<R>, Fault>
+        ensures { Hands (next R.reading R.high R.low room (ahead_of self.old) self.old.at) R.meaning R.writing (R.IsAt self.old.at) self.old self.new result }
     {
-        let at = self.at;
+        let mark = self.at;
         let mut inside = *self;
-        if !inside.enter(0x44, 0x54, room)? {
+        if !inside.enter(R::mark(), room)? {
             return Ok(None);
         }
-        let count = inside.count(at, 1, MOST_CONSTRUCTORS)?;
-        let constructors = inside.lists(at, count)?;
+        let record = R::read(&mut inside, mark)?;
         *self = inside;
-        Ok(Some(TypeRecord {
-            at,
-            count,
-            constructors,
-        }))
-    }
-
-    // What stands behind a function's mark.
-    fn function(&mut self, mark: usize) -> Result<FunctionRecord<'a>, Fault>
-        ensures takes { Takes (function_of mark (ahead_of self.old) self.old.at) function_held self.old self.new result }
-        ensures held { IfOk result (λ x. FunctionRead mark self.old.at (ahead_of self.old) x (ahead_of self.new)) }
-    {
-        let mut ahead = *self;
-        let params = ahead.list(mark)?;
-        let result = ahead.byte(mark)?;
-        let body = ahead.part(mark)?;
-        let start = ahead.at - body.len();
-        *self = ahead;
-        Ok(FunctionRecord {
-            at: mark,
-            params,
-            result,
-            start,
-            body,
-        })
-    }
-
-    // The next function record.
-    pub fn next_function(&mut self, room: usize) -> Result<Option<FunctionRecord<'a>>, Fault>
-        ensures { Hands (next function_of 0x46 0x4E room (ahead_of self.old) self.old.at) function_held write_function (FunctionHeld self.old.at) self.old self.new result }
-    {
-        let mut inside = *self;
-        if !inside.enter(0x46, 0x4E, room)? {
-            return Ok(None);
-        }
-        let found = inside.function(self.at)?;
-        *self = inside;
-        Ok(Some(found))
-    }
-
-    // The next unknown record.
-    pub fn next_unknown(&mut self, room: usize) -> Result<Option<UnknownRecord>, Fault>
-        ensures { Hands (next byte_of 0x55 0x4B room (ahead_of self.old) self.old.at) (λ x. x.ty) encode_unknown (λ x. x.at ≡ self.old.at) self.old self.new result }
-    {
-        let at = self.at;
-        let mut inside = *self;
-        if !inside.enter(0x55, 0x4B, room)? {
-            return Ok(None);
-        }
-        let ty = inside.byte(at)?;
-        *self = inside;
-        Ok(Some(UnknownRecord { at, ty }))
-    }
-
-    // The next goal record.
-    pub fn next_goal(&mut self, room: usize) -> Result<Option<GoalRecord<'a>>, Fault>
-        ensures { Hands (next part_of 0x47 0x4C room (ahead_of self.old) self.old.at) (λ x. x.term.now) write_goal (GoalHeld self.old.at) self.old self.new result }
-    {
-        let at = self.at;
-        let mut inside = *self;
-        if !inside.enter(0x47, 0x4C, room)? {
-            return Ok(None);
-        }
-        let term = inside.part(at)?;
-        let start = inside.at - term.len();
-        *self = inside;
-        Ok(Some(GoalRecord { at, start, term }))
+        Ok(Some(record))
     }
 
     // The end record, and nothing after it.
     pub fn end(&self) -> Result<(), Fault>
         ensures { result ≡ end_of tt (ahead_of self.now) self.now.at }
     {
-        if !self.starts(0x45, 0x4E) {
+        if !self.starts(END) {
             return Err(Reason::NoMark.at(self.at));
         }
         if self.bytes.len() - self.at > 2 {

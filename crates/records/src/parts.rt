@@ -5,6 +5,7 @@ ghost use Rattle.records.specs.Reading.{byte_of, bytes_of, list_of, lists_of, pa
 ghost use Rattle.records.specs.Next.{count_of, lists_in, Lists};
 ghost use Rattle.records.specs.Readers.{ahead_of, Takes};
 
+use crate::next::Mark;
 use crate::reader::Reader;
 use syntax::faults::{Fault, Reason};
 
@@ -13,13 +14,13 @@ const MOST_TYPES: u8 = 6;
 
 impl<'a> Reader<'a> {
     // Are the next two bytes this mark?
-    pub(crate) fn starts(&self, high: u8, low: u8) -> bool
-        ensures { result ≡ starts_with high low (ahead_of self.now) }
+    pub(crate) fn starts(&self, mark: Mark) -> bool
+        ensures { result ≡ starts_with mark.high mark.low (ahead_of self.now) }
     {
         if self.bytes.len() - self.at < 2 {
             return false;
         }
-        self.bytes[self.at] == high && self.bytes[self.at + 1] == low
+        self.bytes[self.at] == mark.high && self.bytes[self.at + 1] == mark.low
     }
 
     pub(crate) fn byte(&mut self, mark: usize) -> Result<u8, Fault>

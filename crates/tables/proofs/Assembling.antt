@@ -10,12 +10,13 @@ use Rattle.syntax.specs.declared.tables.Span.{Span}
 use Rattle.syntax.specs.Tables.{profile_in}
 use Rattle.syntax.specs.Problems.{concat, encode_type, encode_unknown}
 use Rattle.records.specs.Raw.{Raw, RawFunction, write_function, write_goal, write}
-use Rattle.records.specs.Reading.{and_then, many, type_of, function_of, byte_of, part_of, starts, end_of, records}
+use Rattle.records.specs.Reading.{Read, and_then, many, type_of, function_of, byte_of, part_of, starts, end_of, records}
 use Rattle.records.specs.declared.reader.Reader.{Reader}
 use Rattle.tables.specs.declared.filling.Counts.{Counts}
 use Rattle.records.specs.Readers.{ahead_of}
 use Rattle.tables.specs.Tabled.{places_of, mark_at, functions_start, unknowns_start, goals_start, Inside, function_in, Tabled}
-use Rattle.tables.specs.Sections.{Section, TypesHeld, FunctionsHeld, UnknownsHeld, GoalsHeld}
+use Rattle.tables.specs.Sections.{Section}
+use Rattle.tables.proofs.Held.{TypesHeld, FunctionsHeld, UnknownsHeld, GoalsHeld}
 use Rattle.tables.proofs.Exactness.{after_goals, after_unknowns, after_functions, after_types, short_enough, end_sound, within_limits}
 use Rattle.records.proofs.Passed.{place_after}
 
@@ -48,6 +49,12 @@ each_of_front : {T : Type 0} (P : T → Type 0) (table : List T) (n : ℕ) → (
 each_of_front P table n h k d low =
     let less : k < n = omega (arith, length-take n table) in
     subst P (sym (get_or-take n table k d less)) (h k d less)
+
+-- the same section, its limit by an equal number
+pub limited : {A : Type 0} {one : ℕ → List ℕ → ℕ → Result (Read A) Fault} {w : A → List ℕ} {a b m n : ℕ} {before after : Reader} {xs : List A} → m ≡ n
+    → Section one w a b m before after xs → Section one w a b n before after xs
+limited {one = one} {a = a} {b} {before = before} e s =
+    record { same = s.same; is = ap (λ k. many one a b k (ahead_of before) before.at) (sym e) ∙ s.is; front = s.front }
 
 module _ (bs : List ℕ) (short : length bs ≤ 16384) (r₀ : Reader) (whole : r₀.bytes.now ≡ bs) (start : r₀.at ≡ 0) where
   all_ahead : ahead_of r₀ ≡ bs

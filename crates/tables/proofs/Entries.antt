@@ -1,17 +1,16 @@
 -- One entry more in a table. Assumes nothing.
-use Rattle.std.proofs.Common.{◌≡◌, ℕ, suc, ◌+◌, ◌-◌, ◌/◌, ◌%◌, ◌<◌, ◌≤◌, ◌≢◌, List, [], ◌∷◌, ◌++◌, map, length, get_or, take, drop, set, sym, refl, ap, ◌∙◌, subst, append_assoc, add-zero, add_assoc, arith, below_more}
-use Rattle.std.proofs.lemmas.List.{length-append, length-drop, length_push, drop_more, drop-drop, take_more_set, take_at, drop_at, map_push, get_or-set_same, get_or-set_other}
-use Rattle.syntax.specs.declared.tables.Datatype.{Datatype}
+use Rattle.std.proofs.Common.{◌≡◌, ℕ, suc, ◌+◌, ◌-◌, ◌/◌, ◌%◌, ◌<◌, ◌≤◌, ◌≢◌, List, [], ◌∷◌, ◌++◌, map, length, get_or, take, drop, set, sym, refl, ap, ◌∙◌, subst, append_assoc, add-zero, arith, below_more}
+use Rattle.std.proofs.lemmas.List.{length-append, length-set, length-drop, length_push, drop_more, drop-drop, take_more_set, take_at, drop_at, map_push, get_or-set_same, get_or-set_other}
 use Rattle.syntax.specs.declared.tables.Callable.{Callable}
 use Rattle.syntax.specs.declared.tables.Span.{Span}
 use Rattle.syntax.specs.declared.tables.TypeList.{TypeList}
-use Rattle.syntax.specs.Tables.{listed, cases_in, profile_in}
-use Rattle.syntax.specs.Problems.{bool, concat, encode_list, encode_type}
+use Rattle.syntax.specs.Tables.{listed, profile_in}
+use Rattle.syntax.specs.Problems.{concat, encode_list}
 use Rattle.records.specs.Raw.{RawFunction, write_function, write_goal}
 use Rattle.records.specs.Next.{lists_in, Lists}
-use Rattle.tables.specs.Tabled.{places_of, mark_at, body_at, term_at, part_in, function_in, Inside}
+use Rattle.tables.specs.Tabled.{places_of, part_in, function_in, Inside}
 use Rattle.records.proofs.Nexts.{function_long}
-use Rattle.tables.specs.Sections.{TypesHeld, FunctionsHeld, UnknownsHeld, GoalsHeld}
+use Rattle.tables.specs.Sections.{Stand, Entered}
 
 pub places_push : {A : Type 0} (g : ℕ → A → ℕ) (w : A → List ℕ) (p : ℕ) (xs : List A) (x : A) →
     places_of g w p (xs ++ x ∷ []) ≡ places_of g w p xs ++ g (p + length (concat w xs)) x ∷ []
@@ -32,43 +31,23 @@ module _ {T : Type 0} (table : List T) (n : ℕ) (t : T) (low : n < length table
       (λ i m. let ne : i ≢ n = omega arith in subst P (sym (get_or-set_other table n i t d ne)) (h i d m))
       (subst P (sym (get_or-set_same table n t d low)) p) k l
 
-pub types_push : {p : ℕ} {table : List Datatype} {n : ℕ} {xs : List (List (List ℕ))} (x : List (List ℕ)) (t : Datatype) →
-    TypesHeld p table n xs → n < length table → cases_in t ≡ x → t.at ≡ p + length (concat encode_type xs) → TypesHeld p (set table n t) (n + 1) (xs ++ x ∷ [])
-types_push {p} {table} {n} {xs} x t h low e f =
-    record {
-      long = ap (λ k. k + 1) h.long ∙ add_assoc 1 (length xs) 1 ∙ ap (λ k. 1 + k) (sym (length_push xs x));
-      cases = map_entry table n t low cases_in (bool ∷ xs) x h.cases e;
-      marks = map_entry table n t low (λ d. d.at) _ _ h.marks f ∙ ap (λ k. 0 ∷ k) (sym (places_push mark_at encode_type p xs x));
-    }
+-- one entry more that stands for a record
+pub stand_push : {A T : Type 0} (E : ℕ → A → T → Type 0) (w : A → List ℕ) (p : ℕ) (xs : List A) (ts : List T) (x : A) (t : T) →
+    Stand E w p xs ts → E (p + length (concat w xs)) x t → Stand E w p (xs ++ x ∷ []) (ts ++ t ∷ [])
+stand_push E w p [] [] x t h e = (subst (λ k. E k x t) (add-zero p) e, tt)
+stand_push E w p [] (u ∷ ts) x t h e = absurd h
+stand_push E w p (y ∷ xs) [] x t h e = absurd h
+stand_push E w p (y ∷ xs) (u ∷ ts) x t h e =
+    let sum : p + length (concat w (y ∷ xs)) ≡ p + length (w y) + length (concat w xs) = omega (arith, length-append (w y) (concat w xs)) in
+    (h.0, stand_push E w (p + length (w y)) xs ts x t h.1 (subst (λ k. E k x t) sum e))
 
-pub functions_push : {bs : List ℕ} {p : ℕ} {table : List Callable} {n : ℕ} {xs : List RawFunction} (x : RawFunction) (t : Callable) →
-    FunctionsHeld bs p table n xs → n < length table → function_in bs t ≡ x → t.at ≡ p + length (concat write_function xs) →
-    t.body.start ≡ body_at (p + length (concat write_function xs)) x → Inside bs t.body → FunctionsHeld bs p (set table n t) (n + 1) (xs ++ x ∷ [])
-functions_push {bs} {p} {table} {n} {xs} x t h low e f g i =
+pub entered_push : {A T : Type 0} {E : ℕ → A → T → Type 0} {w : A → List ℕ} {p : ℕ} {table : List T} {n : ℕ} {xs : List A} (x : A) (t : T) →
+    Entered E w p table n xs → n < length table → E (p + length (concat w xs)) x t → Entered E w p (set table n t) (n + 1) (xs ++ x ∷ [])
+entered_push {E = E} {w} {p} {table} {n} {xs} x t h low e =
     record {
       long = ap (λ k. k + 1) h.long ∙ sym (length_push xs x);
-      are = map_entry table n t low (function_in bs) xs x h.are e;
-      marks = map_entry table n t low (λ d. d.at) _ _ h.marks f ∙ sym (places_push mark_at write_function p xs x);
-      bodies = map_entry table n t low (λ d. d.body.start) _ _ h.bodies g ∙ sym (places_push body_at write_function p xs x);
-      inside = each_entry table n t low (λ d. Inside bs d.body) h.inside i;
-    }
-
-pub unknowns_push : {table : List ℕ} {n : ℕ} {xs : List ℕ} (t : ℕ) → UnknownsHeld table n xs → n < length table → UnknownsHeld (set table n t) (n + 1) (xs ++ t ∷ [])
-unknowns_push {table} {n} {xs} t h low =
-    record {
-      long = ap (λ k. k + 1) h.long ∙ sym (length_push xs t);
-      are = take_more_set table n t low ∙ ap (λ k. k ++ t ∷ []) h.are;
-    }
-
-pub goals_push : {bs : List ℕ} {p : ℕ} {table : List Span} {n : ℕ} {xs : List (List ℕ)} (x : List ℕ) (t : Span) →
-    GoalsHeld bs p table n xs → n < length table → part_in bs t ≡ x → t.start ≡ term_at (p + length (concat write_goal xs)) x → Inside bs t →
-    GoalsHeld bs p (set table n t) (n + 1) (xs ++ x ∷ [])
-goals_push {bs} {p} {table} {n} {xs} x t h low e f i =
-    record {
-      long = ap (λ k. k + 1) h.long ∙ sym (length_push xs x);
-      are = map_entry table n t low (part_in bs) xs x h.are e;
-      terms = map_entry table n t low (λ d. d.start) _ _ h.terms f ∙ sym (places_push term_at write_goal p xs x);
-      inside = each_entry table n t low (Inside bs) h.inside i;
+      fits = omega (arith, length-set table n t);
+      stand = subst (Stand E w p (xs ++ x ∷ [])) (sym (take_more_set table n t low)) (stand_push E w p xs (take n table) x t h.stand e);
     }
 
 -- a part of the bytes behind some others

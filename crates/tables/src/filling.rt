@@ -1,17 +1,36 @@
 // Reads a problem's records into tables.
-ghost use Rattle.std.specs.Prelude.{◌≡◌, ◌≤◌, length, Err, MatchResult};
+ghost use Rattle.std.specs.Prelude.{◌≡◌, Err, MatchResult};
 ghost use Rattle.records.specs.Raw.{Raw};
 ghost use Rattle.records.specs.Reading.{records};
 ghost use Rattle.tables.specs.Tabled.{Tabled};
 ghost use Rattle.tables.specs.Exact.{ReadingExact};
 
-use crate::sections::{fill_functions, fill_goals, fill_types, fill_unknowns};
+use crate::sections::{BOOL, callable, datatype, fill, goal, unknown};
 use records::reader::Reader;
 use syntax::faults::{Fault, Reason};
 use syntax::tables::{Callable, Datatype, Span};
 
 // The most bytes that a problem may have.
 const LONGEST: usize = 16384;
+
+// Room for all that a problem may declare; how much of each table is filled is in `Counts`.
+// Kept as it is: arrays with counts beside them, since a check of bytes allocates nothing.
+#[derive(Clone, Copy)]
+pub struct WorkTables {
+    pub types: [Datatype; 32],
+    pub functions: [Callable; 64],
+    pub unknowns: [u8; 16],
+    pub goals: [Span; 32],
+}
+
+impl WorkTables {
+    pub const EMPTY: WorkTables = WorkTables {
+        types: [Datatype::EMPTY; 32],
+        functions: [Callable::EMPTY; 64],
+        unknowns: [0; 16],
+        goals: [Span::EMPTY; 32],
+    };
+}
 
 // How many types (Bool among them), functions, unknowns and goals there are, and where the unknown records start.
 #[derive(Clone, Copy)]
@@ -24,35 +43,26 @@ pub struct Counts {
 }
 
 // Fills the tables with what the records hold. After a refusal nothing is promised of the tables.
-pub fn read_records(
-    bytes: &[u8],
-    types: &mut [Datatype],
-    functions: &mut [Callable],
-    unknowns: &mut [u8],
-    goals: &mut [Span],
-) -> Result<Counts, Fault>
-    requires types { 32 ≤ length types.old }
-    requires functions { 64 ≤ length functions.old }
-    requires unknowns { 16 ≤ length unknowns.old }
-    requires goals { 32 ≤ length goals.old }
-    ensures reads { MatchResult result (λ n. ((raw : Raw) × Tabled bytes.now raw types.new functions.new unknowns.new goals.new n)) (λ e. records bytes.now ≡ Err e) }
+pub fn read_records(bytes: &[u8], tables: &mut WorkTables) -> Result<Counts, Fault>
+    ensures reads { MatchResult result (λ n. ((raw : Raw) × Tabled bytes.now raw tables.new.types tables.new.functions tables.new.unknowns tables.new.goals n)) (λ e. records bytes.now ≡ Err e) }
     ensures exact { ReadingExact }
 {
     if bytes.len() > LONGEST {
         return Err(Reason::TooLong.at(LONGEST));
     }
     let mut reader = Reader::new(bytes);
-    let type_count = fill_types(&mut reader, types)?;
-    let function_count = fill_functions(&mut reader, functions)?;
+    tables.types[0] = BOOL;
+    let types = fill(&mut reader, &mut tables.types[1..], datatype)?;
+    let functions = fill(&mut reader, &mut tables.functions, callable)?;
     let start = reader.place();
-    let unknown_count = fill_unknowns(&mut reader, unknowns)?;
-    let goal_count = fill_goals(&mut reader, goals)?;
+    let unknowns = fill(&mut reader, &mut tables.unknowns, unknown)?;
+    let goals = fill(&mut reader, &mut tables.goals, goal)?;
     reader.end()?;
     Ok(Counts {
-        types: type_count,
-        functions: function_count,
-        unknowns: unknown_count,
-        goals: goal_count,
+        types: 1 + types,
+        functions,
+        unknowns,
+        goals,
         start,
     })
 }

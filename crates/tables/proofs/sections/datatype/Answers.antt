@@ -22,16 +22,16 @@ overflow_add-end-in-loop-c c =
 pub overflow_add-place : goal.overflow_add-place
 overflow_add-place c = let low = (list_at c.args.item.constructors.now c.loop-c.place c.from-count.result c.loop-c.c c.loop-c-test.true c.loop-c.invariant.1).low in search rules
 
-pub slice_bounds-type_list-end : goal.slice_bounds-type_list-end
-slice_bounds-type_list-end c =
+pub slice_bounds-new-end : goal.slice_bounds-new-end
+slice_bounds-new-end c =
     let f = list_at c.args.item.constructors.now c.loop-c.place c.from-count.result c.loop-c.c c.loop-c-test.true c.loop-c.invariant.1 in
     let fits = f.fits in
     let is = c.from.ensures in
     let low : c.loop-c.place + 1 + c.from.result ≤ length c.args.item.constructors.now = omega arith in
     search rules
 
-pub type_list-requires : goal.type_list-requires
-type_list-requires c =
+pub new-requires : goal.new-requires
+new-requires c =
     let f = list_at c.args.item.constructors.now c.loop-c.place c.from-count.result c.loop-c.c c.loop-c-test.true c.loop-c.invariant.1 in
     let n = c.loop-c.place + 1 + c.from.result - (c.loop-c.place + 1) in
     let few : n ≤ 6 = omega (arith, f.few, c.from.ensures) in
@@ -45,14 +45,14 @@ loop-c-preserved c =
     let n = c.from-count.result in
     let i = c.loop-c.c in
     let table = c.loop-c.constructors in
-    let t = c.type_list.result in
+    let t = c.new.result in
     let inv = c.loop-c.invariant in
     let f = list_at c.args.item.constructors.now c.loop-c.place c.from-count.result c.loop-c.c c.loop-c-test.true c.loop-c.invariant.1 in
     let k = get_or lists place 0 in
     let end : place + 1 + k ≡ place + 1 + c.from.result = omega (arith, c.from.ensures) in
     let size : place + 1 + c.from.result - (place + 1) ≡ k = omega (arith, c.from.ensures) in
     let low : i < length table = omega (arith, inv.0) in
-    let is : listed t ≡ take k (drop (place + 1) lists) = c.type_list.ensures ∙ ap (λ z. take z (drop (place + 1) lists)) size in (
+    let is : listed t ≡ take k (drop (place + 1) lists) = c.new.ensures ∙ ap (λ z. take z (drop (place + 1) lists)) size in (
       length-set table i t ∙ inv.0,
       subst (λ z. Lists (n - (i + 1)) (drop z lists)) end f.others,
       ap (λ z. map listed (take (i + 1) (set table i t)) ++ lists_in (n - (i + 1)) (drop z lists)) (sym end)
