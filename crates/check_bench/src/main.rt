@@ -30,14 +30,9 @@ fn problem_of(heap: Global, size: usize) -> Result<Vec<u8>, AllocError> {
     Ok(bytes)
 }
 
-fn repeat(bytes: &[u8], times: u32) -> u32 {
-    let mut accepted: u32 = 0;
-    for _ in 0..times {
-        if check(bytes).is_ok() {
-            accepted = accepted.saturating_add(1);
-        }
-    }
-    accepted
+// How many of so many checks accept the bytes.
+fn repeat(bytes: &[u8], times: u32) -> usize {
+    (0..times).filter(|_| check(bytes).is_ok()).count()
 }
 
 fn measure(rt: &HostRuntime, size: usize, times: u32) -> io::Result<()> {

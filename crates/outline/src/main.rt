@@ -1,39 +1,12 @@
 // Reads lines of a name and bytes in hexadecimal, takes each as a problem, and prints what the problem says when it is asked.
 #![tactic(auto)]
 
+use hextext::bytes_of;
 use problem::problem::Problem;
 use problem::take::take;
 use problem::view::View;
-use std::alloc::{AllocError, Global};
 use std::io;
 use std::io::{BufRead, BufReader};
-
-// The number that a hexadecimal digit stands for.
-fn digit(b: u8) -> Option<u8> {
-    match b {
-        b'0'..=b'9' => Some(b - b'0'),
-        b'a'..=b'f' => Some(b - b'a' + 10),
-        _ => None,
-    }
-}
-
-// The bytes that pairs of digits write; anything else between them is passed over.
-fn bytes_of(heap: Global, text: &[u8]) -> Result<Vec<u8>, AllocError> {
-    let mut bytes = Vec::new(heap);
-    let mut high = None;
-    for b in text {
-        if let Some(low) = digit(*b) {
-            high = match high {
-                None => Some(low),
-                Some(first) => {
-                    bytes.push((first & 15) * 16 + (low & 15))?;
-                    None
-                }
-            };
-        }
-    }
-    Ok(bytes)
-}
 
 fn tell_type(rt: &HostRuntime, p: &Problem, t: u8) -> io::Result<()> {
     let least = p.least(t);
@@ -44,33 +17,6 @@ fn tell_type(rt: &HostRuntime, p: &Problem, t: u8) -> io::Result<()> {
         println!(rt; "    constructor {c} over {arguments:?} needs {need}")?;
     }
     Ok(())
-}
-
-fn tell_view(rt: &HostRuntime, place: usize, view: View) -> io::Result<()> {
-    match view {
-        View::Variable(v) => println!(rt; "    {place}: variable {v}"),
-        View::Unknown(k) => println!(rt; "    {place}: unknown {k}"),
-        View::Constructor {
-            ty,
-            constructor,
-            arity,
-            arguments,
-        } => println!(rt;
-            "    {place}: constructor {constructor} of type {ty}, {arity} from {arguments}"
-        ),
-        View::Call {
-            function,
-            arity,
-            arguments,
-        } => println!(rt; "    {place}: call of {function}, {arity} from {arguments}"),
-        View::Case { ty, subject } => println!(rt;
-            "    {place}: case of type {ty}, subject {subject}"
-        ),
-        View::And { left, right } => println!(rt; "    {place}: and of {left} and {right}"),
-        View::Not(inner) => println!(rt; "    {place}: not of {inner}"),
-        View::Equal { left, right } => println!(rt; "    {place}: equal of {left} and {right}"),
-        View::Nothing => println!(rt; "    {place}: nothing"),
-    }
 }
 
 // Where the next term stands: the first part of a term, or what comes after a term without parts.
@@ -93,7 +39,7 @@ fn tell_term(rt: &HostRuntime, p: &Problem, start: usize) -> io::Result<()> {
             break;
         }
         let view = p.view(place);
-        tell_view(rt, place, view)?;
+        println!(rt; "    {place}: {view}")?;
         place = next_place(p, place, view);
     }
     Ok(())

@@ -1,3 +1,4 @@
 pub mod Meant
 pub mod Views
 pub mod Taken
+pub mod Shown

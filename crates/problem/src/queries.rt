@@ -196,10 +196,9 @@ impl Problem {
         ensures is { result ≡ view_at (sig self.now) (held self.now) (ends self.now) place }
         ensures shows { AlwaysShows (sig self.now) (held self.now) (ends self.now) place result }
     {
-        if place < self.bytes.len() {
-            self.view_by(place, Tag::from(self.byte(place)))
-        } else {
-            View::Nothing
+        match self.bytes.get(place) {
+            Some(tag) => self.view_by(place, Tag::from(*tag)),
+            None => View::Nothing,
         }
     }
 }

@@ -44,9 +44,7 @@ fn tell(rt: &HostRuntime, problem: &Problem) -> io::Result<()> {
 fn main(rt: HostRuntime) -> io::Result<()> {
     let bytes = input(&rt)?;
     if let Err(fault) = check(bytes.as_slice()) {
-        let number = fault.reason.number();
-        let place = fault.place;
-        return println!(rt; "refused {number} at {place}");
+        return println!(rt; "refused {fault}");
     }
     let problem = take(rt.alloc(), bytes.as_slice())?;
     tell(&rt, &problem)
