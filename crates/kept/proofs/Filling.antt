@@ -103,7 +103,7 @@ unfolding read_from
 is_read bs p e = ap problem_in e
 
 pub filled : (bs : List ℕ) (w : Workspace) (n : Counts) → Accepted bs w n
-    → Filled bs (take n.types w.types) (take n.functions w.functions) (take n.unknowns w.unknowns) (take n.goals w.goals) (take n.types w.least)
+    → Filled bs (take n.types w.tables.types) (take n.functions w.tables.functions) (take n.unknowns w.tables.unknowns) (take n.goals w.tables.goals) (take n.types w.least)
 filled bs w n a =
     let r = a.raw in
     let p = a.problem in
@@ -111,7 +111,7 @@ filled bs w n a =
     let l = subst (Laid r) (sym is) (laid r p a.terms) in
     let d = a.tabled.declares in
     let at = a.tabled.locates in
-    let fs = take n.functions w.functions in
+    let fs = take n.functions w.tables.functions in
     let profiles : map profile_in fs ≡ map (λ f. f.profile) (read_from bs).functions = d.of_functions ∙ sym l.profiles in
     let all = ap (λ ts. bool ∷ ts) (sym l.types) in
     let sigs : declared_by r ≡ sig_from bs =
@@ -152,8 +152,8 @@ declared_same s bs types functions unknowns goals least h ts fs us =
 pub holds_fronts : (bs : List ℕ) (w : Workspace) (n : Counts) (t : Tables) → Accepted bs w n → Fronts w n t → Holds bs t
 holds_fronts bs w n t a f =
     let h = filled bs w n a in
-    let h₁ = subst (λ x. Filled bs x (take n.functions w.functions) (take n.unknowns w.unknowns) (take n.goals w.goals) (take n.types w.least)) (sym f.of_types) h in
-    let h₂ = subst (λ x. Filled bs (vec_items t.types) x (take n.unknowns w.unknowns) (take n.goals w.goals) (take n.types w.least)) (sym f.of_functions) h₁ in
-    let h₃ = subst (λ x. Filled bs (vec_items t.types) (vec_items t.functions) x (take n.goals w.goals) (take n.types w.least)) (sym f.of_unknowns) h₂ in
+    let h₁ = subst (λ x. Filled bs x (take n.functions w.tables.functions) (take n.unknowns w.tables.unknowns) (take n.goals w.tables.goals) (take n.types w.least)) (sym f.of_types) h in
+    let h₂ = subst (λ x. Filled bs (vec_items t.types) x (take n.unknowns w.tables.unknowns) (take n.goals w.tables.goals) (take n.types w.least)) (sym f.of_functions) h₁ in
+    let h₃ = subst (λ x. Filled bs (vec_items t.types) (vec_items t.functions) x (take n.goals w.tables.goals) (take n.types w.least)) (sym f.of_unknowns) h₂ in
     let h₄ = subst (λ x. Filled bs (vec_items t.types) (vec_items t.functions) (vec_items t.unknowns) x (take n.types w.least)) (sym f.of_goals) h₃ in
     subst (λ x. Filled bs (vec_items t.types) (vec_items t.functions) (vec_items t.unknowns) (vec_items t.goals) x) (sym f.of_least) h₄

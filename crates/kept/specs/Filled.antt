@@ -39,10 +39,10 @@ pub record NeedsHeld (sig : Sig) (least : List ℕ) (rows : List (List ℕ)) : T
 
 -- the tables are the fronts of a workspace's
 pub record Fronts (w : Workspace) (n : Counts) (t : Tables) : Type 0 where
-  pub of_types : vec_items t.types ≡ take n.types w.types
-  pub of_functions : vec_items t.functions ≡ take n.functions w.functions
-  pub of_unknowns : vec_items t.unknowns ≡ take n.unknowns w.unknowns
-  pub of_goals : vec_items t.goals ≡ take n.goals w.goals
+  pub of_types : vec_items t.types ≡ take n.types w.tables.types
+  pub of_functions : vec_items t.functions ≡ take n.functions w.tables.functions
+  pub of_unknowns : vec_items t.unknowns ≡ take n.unknowns w.tables.unknowns
+  pub of_goals : vec_items t.goals ≡ take n.goals w.tables.goals
   pub of_least : vec_items t.least ≡ take n.types w.least
 
 -- the fronts lie within the tables of a workspace

@@ -37,7 +37,7 @@ pub fn ends_table(heap: Global, bytes: &[u8], sig: Signature) -> Result<Vec<u16>
 pub fn examined(heap: Global, bytes: &[u8]) -> Result<Option<Tables>, AllocError>
     ensures { IfOk result (λ o. MatchOption o (is_ok (verdict bytes.now) ≡ false) (λ t. Holds bytes.now t)) }
 {
-    let mut work = Workspace::new();
+    let mut work = Workspace::EMPTY;
     let mut tasks: Stack<16385> = Stack::new();
     let Ok(counts) = examine(bytes, &mut work, &mut tasks) else {
         return Ok(None);

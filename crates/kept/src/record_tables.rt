@@ -23,10 +23,10 @@ impl Tables {
         ensures { IfOk result (λ t. Fronts work.now counts t) }
     {
         Ok(Tables {
-            types: Vec::from_slice(heap, &work.types[..counts.types])?,
-            functions: Vec::from_slice(heap, &work.functions[..counts.functions])?,
-            unknowns: Vec::from_slice(heap, &work.unknowns[..counts.unknowns])?,
-            goals: Vec::from_slice(heap, &work.goals[..counts.goals])?,
+            types: Vec::from_slice(heap, &work.tables.types[..counts.types])?,
+            functions: Vec::from_slice(heap, &work.tables.functions[..counts.functions])?,
+            unknowns: Vec::from_slice(heap, &work.tables.unknowns[..counts.unknowns])?,
+            goals: Vec::from_slice(heap, &work.tables.goals[..counts.goals])?,
             least: Vec::from_slice(heap, &work.least[..counts.types])?,
         })
     }

@@ -189,8 +189,5 @@ declared_same r types functions unknowns s h =
     ∙ ap (λ us. record { types = bool ∷ r.types; functions = map (λ f. f.profile) r.functions; unknowns = us }) h.of_unknowns)
 
 -- least depths at the front of their table, as many as there are types
-pub leasts_front : {A : Type 0} (S T : Sig) (n : ℕ) (ts : List A) (xs : List ℕ) → S ≡ T → n ≤ length ts → Leasts S (take (length (take n ts)) xs) → Leasts T (take n xs)
-leasts_front S T n ts xs same fits h =
-    let short = length-take n ts in
-    let all : length (take n ts) ≡ n = omega arith in
-    subst (λ k. Leasts T (take k xs)) all (subst (λ s. Leasts s (take (length (take n ts)) xs)) same h)
+pub leasts_front : {A : Type 0} (S T : Sig) (n : ℕ) (ts : List A) (xs : List ℕ) → S ≡ T → length ts ≡ n → Leasts S (take (length ts) xs) → Leasts T (take n xs)
+leasts_front S T n ts xs same all h = subst (λ k. Leasts T (take k xs)) all (subst (λ s. Leasts s (take (length ts) xs)) same h)

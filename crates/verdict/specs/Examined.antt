@@ -13,7 +13,7 @@ use Rattle.verdict.specs.Verdict.{verdict, terms_in}
 pub record Accepted (bs : List ℕ) (w : Workspace) (n : Counts) : Type 0 where
   pub raw : Raw
   pub problem : Problem
-  pub tabled : Tabled bs raw w.types w.functions w.unknowns w.goals n
+  pub tabled : Tabled bs raw w.tables.types w.tables.functions w.tables.unknowns w.tables.goals n
   pub terms : terms_in raw ≡ Ok problem
   pub is : verdict bs ≡ Ok problem
   pub leasts : Leasts (declared_by raw) (take n.types w.least)

@@ -16,7 +16,8 @@ fn check_with<const N: usize>(bytes: &[u8]) -> Result<(), Fault>
     ensures says { Says bytes.now result }
 {
     let mut tasks: Stack<N> = Stack::new();
-    examine(bytes, &mut Workspace::new(), &mut tasks)?;
+    let mut work = Workspace::EMPTY;
+    examine(bytes, &mut work, &mut tasks)?;
     Ok(())
 }
 

@@ -19,19 +19,14 @@ pub fn examine<const N: usize>(
     requires { length bytes.now ≤ 16384 → length bytes.now + 1 ≤ N }
     ensures { Examined bytes.now work.new result }
 {
-    let counts = read_records(
-        bytes,
-        &mut work.types,
-        &mut work.functions,
-        &mut work.unknowns,
-        &mut work.goals,
-    )?;
+    let counts = read_records(bytes, &mut work.tables)?;
+    let tables = &work.tables;
     let sig = Signature {
-        types: &work.types[..counts.types],
-        functions: &work.functions[..counts.functions],
-        unknowns: &work.unknowns[..counts.unknowns],
+        types: &tables.types[..counts.types],
+        functions: &tables.functions[..counts.functions],
+        unknowns: &tables.unknowns[..counts.unknowns],
     };
     check_types(sig, counts.start, &mut work.least)?;
-    check_terms(bytes, sig, &work.goals[..counts.goals], tasks)?;
+    check_terms(bytes, sig, &tables.goals[..counts.goals], tasks)?;
     Ok(counts)
 }

@@ -1,5 +1,7 @@
-use Rattle.std.proofs.Common.{◌≡◌, ◌≤◌, length, length-take, refl, ap, ◌∙◌, arith, rules}
+use Rattle.std.proofs.Common.{◌≡◌, ◌≤◌, length, length-take, take, refl, ap, ◌∙◌, arith, rules}
 use Rattle.std.proofs.lemmas.Result.{err_from_is_err_and}
+use Rattle.std.proofs.lemmas.List.{length-map}
+use Rattle.syntax.specs.Tables.{cases_in}
 use Rattle.tables.specs.Tabled.{declared_by}
 use Rattle.verdict.proofs.Examining.{low, fit_functions, by_types, by_terms, terms_refused, terms_accepted, declared_same, leasts_front}
 use Rattle.verdict.proofs.examine.examine.Goals as goal
@@ -16,7 +18,7 @@ check_types-requires g c =
       low =
           low t.0 _ n.start t.1.within
           t.1.declares;
-      long = omega (arith, length-take n.types c.read_records.new.types);
+      long = omega (arith, length-take n.types c.read_records.new.tables.types);
     }
 
 pub returns-in_err-check_types : goal.returns-in_err-check_types
@@ -58,15 +60,13 @@ returns g c =
     let d = t.1.declares in
     let l = t.1.locates in
     let a = terms_accepted c.args.bytes.now t.0 _ _ l _ (declared_same t.0 _ _ _ n.start d) c.in_ok-check_terms.ensures in
-    let few = t.1.within.few_types in
-    let count = t.1.types_count in
-    let wide : length c.read_records.new.types ≡ 32 = search rules in
-    let fits : n.types ≤ length c.read_records.new.types = omega arith in
+    let ts = take n.types c.read_records.new.tables.types in
+    let all : length ts ≡ n.types = omega (arith, length-map ts cases_in, ap length d.of_types, t.1.types_count) in
     record {
       raw = t.0;
       problem = a.0;
       tabled = t.1;
       terms = a.1;
       is = by_terms c.args.bytes.now t.0 t.1.read (c.in_ok-check_types.ensures.exact t.0 d) ∙ a.1;
-      leasts = leasts_front _ (declared_by t.0) n.types c.read_records.new.types c.check_types.new.least (declared_same t.0 _ _ _ n.start d) fits (c.in_ok-check_types.ensures.leasts refl);
+      leasts = leasts_front _ (declared_by t.0) n.types ts c.check_types.new.least (declared_same t.0 _ _ _ n.start d) all (c.in_ok-check_types.ensures.leasts refl);
     }
