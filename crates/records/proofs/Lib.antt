@@ -1,4 +1,3 @@
-pub mod Heads
 pub mod Passed
 pub mod Sound
 pub mod Runs

@@ -14,11 +14,8 @@ use Rattle.records.specs.Reading.{Read, read, and_then, byte_of, bytes_of, list_
 pub same_read : {A : Type 0} {r s : Read A} → ◌≡◌ {A = Result (Read A) Fault} (Ok r) (Ok s) → r ≡ s
 same_read e = cc
 
-pub no_read : {A : Type 0} {X : Type 0} {f : Fault} {s : Read A} → ◌≡◌ {A = Result (Read A) Fault} (Err f) (Ok s) → X
-no_read e = let z : ◌≡◌ {A = ℕ} 0 1 = cc in absurd (omega arith)
-
 pub byte_sound : {b q : ℕ} {rest : List ℕ} (m : ℕ) (bs : List ℕ) (p : ℕ) → byte_of m bs p ≡ read b rest q → (bs ≡ b ∷ rest) × (q ≡ p + 1)
-byte_sound m [] p e = no_read e
+byte_sound m [] p e = cc
 byte_sound m (x ∷ bs) p e =
     let s = same_read e in
     (ap (λ r. r.value ∷ r.rest) s, sym (ap (λ r. r.at) s))
@@ -28,7 +25,7 @@ count_sound {n} {q} {rest} low high m bs p e = by (byte_of m bs p) e
   where
     test : (r : Read ℕ) (t : Bool) → (leb low r.value && leb r.value high) ≡ t → cond t (Ok r) (Err (fault BadCount p)) ≡ read n rest q →
         (Ok r ≡ read n rest q) × (low ≤ n) × (n ≤ high)
-    test r false h e = no_read e
+    test r false h e = cc
     test r true h e =
         let s = ap (λ z. z.value) (same_read e) in
         let both = and_parts (leb low r.value) (leb r.value high) h in
@@ -36,14 +33,14 @@ count_sound {n} {q} {rest} low high m bs p e = by (byte_of m bs p) e
 
     by : (d : Result (Read ℕ) Fault) → and_then d (λ r. cond (leb low r.value && leb r.value high) (Ok r) (Err (fault BadCount p))) ≡ read n rest q →
         (d ≡ read n rest q) × (low ≤ n) × (n ≤ high)
-    by (Err f) e = no_read e
+    by (Err f) e = cc
     by (Ok r) e = test r (leb low r.value && leb r.value high) refl e
 
 pub bytes_sound : {x rest : List ℕ} {q : ℕ} (m n : ℕ) (bs : List ℕ) (p : ℕ) → bytes_of m n bs p ≡ read x rest q → (bs ≡ x ++ rest) × (length x ≡ n) × (q ≡ p + n)
 bytes_sound {x} {rest} {q} m n bs p e = by (leb n (length bs)) refl e
   where
     by : (t : Bool) → leb n (length bs) ≡ t → cond t (read (take n bs) (drop n bs) (p + n)) (Err (fault PastEnd m)) ≡ read x rest q → (bs ≡ x ++ rest) × (length x ≡ n) × (q ≡ p + n)
-    by false l e = no_read e
+    by false l e = cc
     by true l e =
         let s = same_read e in (
           sym (take-append-drop n bs) ∙ ap (λ r. r.value ++ r.rest) s,
@@ -52,11 +49,11 @@ bytes_sound {x} {rest} {q} m n bs p e = by (leb n (length bs)) refl e
         )
 
 pub list_sound : {x rest : List ℕ} {q : ℕ} (m : ℕ) (bs : List ℕ) (p : ℕ) → list_of m bs p ≡ read x rest q → (bs ≡ encode_list x ++ rest) × Few x
-list_sound m [] p e = no_read e
+list_sound m [] p e = cc
 list_sound {x} {rest} {q} m (n ∷ bs) p e = by (leb n 6) refl e
   where
     by : (t : Bool) → leb n 6 ≡ t → cond t (bytes_of m n bs (p + 1)) (Err (fault BadCount p)) ≡ read x rest q → (n ∷ bs ≡ encode_list x ++ rest) × Few x
-    by false l e = no_read e
+    by false l e = cc
     by true l e =
         let s = bytes_sound m n bs (p + 1) e in
         let few = leb-true n 6 l in

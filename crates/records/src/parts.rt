@@ -17,31 +17,26 @@ impl<'a> Reader<'a> {
     pub(crate) fn starts(&self, mark: Mark) -> bool
         ensures { result ≡ starts_with mark.high mark.low (ahead_of self.now) }
     {
-        if self.bytes.len() - self.at < 2 {
-            return false;
-        }
-        self.bytes[self.at] == mark.high && self.bytes[self.at + 1] == mark.low
+        self.bytes[self.at..].starts_with(&[mark.high, mark.low])
     }
 
     pub(crate) fn byte(&mut self, mark: usize) -> Result<u8, Fault>
         ensures { Takes (byte_of mark (ahead_of self.old) self.old.at) (λ b. b) self.old self.new result }
     {
-        if self.at >= self.bytes.len() {
+        let Some(byte) = self.bytes.get(self.at) else {
             return Err(Reason::PastEnd.at(mark));
-        }
-        let byte = self.bytes[self.at];
+        };
         self.at += 1;
-        Ok(byte)
+        Ok(*byte)
     }
 
     // The next n bytes.
     pub(crate) fn take(&mut self, mark: usize, n: usize) -> Result<&'a [u8], Fault>
         ensures { Takes (bytes_of mark n (ahead_of self.old) self.old.at) (λ p. p.now) self.old self.new result }
     {
-        if n > self.bytes.len() - self.at {
+        let Some(part) = self.bytes[self.at..].get(..n) else {
             return Err(Reason::PastEnd.at(mark));
-        }
-        let part = &self.bytes[self.at..self.at + n];
+        };
         self.at += n;
         Ok(part)
     }
@@ -54,7 +49,7 @@ impl<'a> Reader<'a> {
         let mut ahead = *self;
         let high = ahead.byte(mark)?;
         let low = ahead.byte(mark)?;
-        let part = ahead.take(mark, 256 * usize::from(high) + usize::from(low))?;
+        let part = ahead.take(mark, usize::from(u16::from_be_bytes([high, low])))?;
         *self = ahead;
         Ok(part)
     }

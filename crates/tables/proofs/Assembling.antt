@@ -23,9 +23,6 @@ use Rattle.records.proofs.Passed.{place_after}
 same_faults : {A B : Type 0} {f g : Fault} → ◌≡◌ {A = Result A Fault} (Err f) (Err g) → ◌≡◌ {A = Result B Fault} (Err f) (Err g)
 same_faults {f = f} {g = g} e = let h : f ≡ g = cc in ap Err h
 
-other_answer : {A : Type 0} {X : Type 0} {f : Fault} {x : A} → ◌≡◌ {A = Result A Fault} (Ok x) (Err f) → X
-other_answer e = let z : ◌≡◌ {A = ℕ} 0 1 = cc in absurd (omega arith)
-
 -- the end is refused alike, whatever was read before it
 end_refused : {A B : Type 0} (x : A) (y : B) (xs : List ℕ) (p : ℕ) {f : Fault} → end_of x xs p ≡ Err f → end_of y xs p ≡ Err f
 end_refused {A} {B} x y xs p {f} e = by (starts 0x45 0x4E xs) (leb (length xs) 2) e
@@ -34,7 +31,7 @@ end_refused {A} {B} x y xs p {f} e = by (starts 0x45 0x4E xs) (leb (length xs) 2
         ◌≡◌ {A = Result B Fault} (cond t (cond u (Ok y) (Err (fault BytesAfter (p + 2)))) (Err (fault NoMark p))) (Err f)
     by false u e = same_faults e
     by true false e = same_faults e
-    by true true e = other_answer e
+    by true true e = cc
 
 end_there : {A B : Type 0} (x : A) (y : B) (xs : List ℕ) (p : ℕ) → end_of x xs p ≡ Ok x → end_of y xs p ≡ Ok y
 end_there {A} {B} x y xs p e = ap (λ k. end_of y k p) (end_sound x x xs p e).1

@@ -1,6 +1,6 @@
 -- One entry more in a table. Assumes nothing.
-use Rattle.std.proofs.Common.{◌≡◌, ℕ, suc, ◌+◌, ◌-◌, ◌/◌, ◌%◌, ◌<◌, ◌≤◌, ◌≢◌, List, [], ◌∷◌, ◌++◌, map, length, get_or, take, drop, set, sym, refl, ap, ◌∙◌, subst, append_assoc, add-zero, arith, below_more}
-use Rattle.std.proofs.lemmas.List.{length-append, length-set, length-drop, length_push, drop_more, drop-drop, take_more_set, take_at, drop_at, map_push, get_or-set_same, get_or-set_other}
+use Rattle.std.proofs.Common.{◌≡◌, ℕ, suc, ◌+◌, ◌-◌, ◌/◌, ◌%◌, ◌<◌, ◌≤◌, List, [], ◌∷◌, ◌++◌, map, length, get_or, take, drop, set, sym, refl, ap, ◌∙◌, subst, append_assoc, add-zero, arith}
+use Rattle.std.proofs.lemmas.List.{length-append, length-set, length-drop, length_push, drop-drop, take_more_set, take_at, drop_at, map_push}
 use Rattle.syntax.specs.declared.tables.Callable.{Callable}
 use Rattle.syntax.specs.declared.tables.Span.{Span}
 use Rattle.syntax.specs.declared.tables.TypeList.{TypeList}
@@ -8,28 +8,14 @@ use Rattle.syntax.specs.Tables.{listed, profile_in}
 use Rattle.syntax.specs.Problems.{concat, encode_list}
 use Rattle.records.specs.Raw.{RawFunction, write_function, write_goal}
 use Rattle.records.specs.Next.{lists_in, Lists}
-use Rattle.tables.specs.Tabled.{places_of, part_in, function_in, Inside}
+use Rattle.tables.specs.Tabled.{part_in, function_in, Inside}
 use Rattle.records.proofs.Nexts.{function_long}
 use Rattle.tables.specs.Sections.{Stand, Entered}
-
-pub places_push : {A : Type 0} (g : ℕ → A → ℕ) (w : A → List ℕ) (p : ℕ) (xs : List A) (x : A) →
-    places_of g w p (xs ++ x ∷ []) ≡ places_of g w p xs ++ g (p + length (concat w xs)) x ∷ []
-places_push g w p [] x = ap (λ k. g k x ∷ []) (sym (add-zero p))
-places_push g w p (y ∷ xs) x =
-    let sum : p + length (w y) + length (concat w xs) ≡ p + length (concat w (y ∷ xs)) = omega (arith, length-append (w y) (concat w xs)) in
-    ap (λ k. g p y ∷ k) (places_push g w (p + length (w y)) xs x ∙ ap (λ k. places_of g w (p + length (w y)) xs ++ g k x ∷ []) sum)
 
 module _ {T : Type 0} (table : List T) (n : ℕ) (t : T) (low : n < length table) where
   -- what a function gives on the entries, one more of them
   pub map_entry : {B : Type 0} (f : T → B) (ys : List B) (y : B) → map f (take n table) ≡ ys → f t ≡ y → map f (take (n + 1) (set table n t)) ≡ ys ++ y ∷ []
   map_entry f ys y e h = ap (map f) (take_more_set table n t low) ∙ map_push f (take n table) t ∙ ap (λ k. k ++ f t ∷ []) e ∙ ap (λ k. ys ++ k ∷ []) h
-
-  -- what holds of each entry, one more of them
-  pub each_entry : (P : T → Type 0) → ((k : ℕ) (d : T) → k < n → P (get_or table k d)) → P t → (k : ℕ) (d : T) → k < n + 1 → P (get_or (set table n t) k d)
-  each_entry P h p k d l =
-      below_more (λ i. P (get_or (set table n t) i d)) n
-      (λ i m. let ne : i ≢ n = omega arith in subst P (sym (get_or-set_other table n i t d ne)) (h i d m))
-      (subst P (sym (get_or-set_same table n t d low)) p) k l
 
 -- one entry more that stands for a record
 pub stand_push : {A T : Type 0} (E : ℕ → A → T → Type 0) (w : A → List ℕ) (p : ℕ) (xs : List A) (ts : List T) (x : A) (t : T) →
@@ -74,53 +60,35 @@ pub before_body_long : (f : RawFunction) → length (before_body f) ≡ 6 + leng
 before_body_long f = omega (arith, length-append (encode_list f.profile.params) (f.profile.result ∷ ((length f.body / 256) ∷ ((length f.body % 256) ∷ []))))
 
 -- the first list in bytes that hold lists
-pub record FirstList (lists : List ℕ) (place k : ℕ) : Type 0 where
-  pub low : place < length lists
-  pub few : get_or lists place 0 ≤ 6
-  pub fits : place + 1 + get_or lists place 0 ≤ length lists
-  pub others : Lists k (drop (place + 1 + get_or lists place 0) lists)
-  pub are : lists_in (suc k) (drop place lists) ≡ take (get_or lists place 0) (drop (place + 1) lists) ∷ lists_in k (drop (place + 1 + get_or lists place 0) lists)
+pub record FirstList (rest : List ℕ) (k : ℕ) : Type 0 where
+  pub low : 1 ≤ length rest
+  pub few : get_or rest 0 0 ≤ 6
+  pub fits : get_or rest 0 0 ≤ length (drop 1 rest)
+  pub others : Lists k (drop (get_or rest 0 0) (drop 1 rest))
+  pub are : lists_in (suc k) rest ≡ take (get_or rest 0 0) (drop 1 rest) ∷ lists_in k (drop (get_or rest 0 0) (drop 1 rest))
 
-some_byte : (k : ℕ) (bs : List ℕ) → Lists (suc k) bs → 0 < length bs
-some_byte k [] h = absurd h
-some_byte k (b ∷ bs) h = omega arith
-
-pub first_list : (lists : List ℕ) (place k : ℕ) → Lists (suc k) (drop place lists) → FirstList lists place k
-first_list lists place k h =
-    let some = some_byte k (drop place lists) h in
-    let low : place < length lists = omega (arith, length-drop place lists) in
-    let n = get_or lists place 0 in
-    let first = drop_more lists place 0 low in
-    let g = subst (Lists (suc k)) first h in
-    let fits = g.1 in
-    let more = drop-drop n (place + 1) lists in
-    record {
-      low = low;
-      few = g.0;
-      fits = omega (arith, length-drop (place + 1) lists);
-      others = subst (Lists k) more g.2;
-      are = ap (lists_in (suc k)) first ∙ ap (λ z. take n (drop (place + 1) lists) ∷ lists_in k z) more;
-    }
+first_list : (rest : List ℕ) (k : ℕ) → Lists (suc k) rest → FirstList rest k
+first_list [] k h = absurd h
+first_list (b ∷ bs) k h = record { low = omega arith; few = h.0; fits = h.1; others = h.2; are = refl }
 
 -- the i-th of n lists
-pub list_at : (lists : List ℕ) (place n i : ℕ) → i < n → Lists (n - i) (drop place lists) → FirstList lists place (n - (i + 1))
-list_at lists place n i less h =
+pub list_at : (rest : List ℕ) (n i : ℕ) → i < n → Lists (n - i) rest → FirstList rest (n - (i + 1))
+list_at rest n i less h =
     let one_more : n - i ≡ suc (n - (i + 1)) = omega arith in
-    first_list lists place (n - (i + 1)) (subst (λ k. Lists k (drop place lists)) one_more h)
+    first_list rest (n - (i + 1)) (subst (λ k. Lists k rest) one_more h)
 
 -- one constructor more in a type's table
-pub constructor_push : (lists : List ℕ) (place n i : ℕ) (table : List TypeList) (t : TypeList) (all : List (List ℕ)) → i < n → i < length table →
-    Lists (n - i) (drop place lists) → listed t ≡ take (get_or lists place 0) (drop (place + 1) lists) →
-    map listed (take i table) ++ lists_in (n - i) (drop place lists) ≡ all →
-    map listed (take (i + 1) (set table i t)) ++ lists_in (n - (i + 1)) (drop (place + 1 + get_or lists place 0) lists) ≡ all
-constructor_push lists place n i table t all less low h e f =
+pub constructor_push : (rest : List ℕ) (n i : ℕ) (table : List TypeList) (t : TypeList) (all : List (List ℕ)) → i < n → i < length table →
+    Lists (n - i) rest → listed t ≡ take (get_or rest 0 0) (drop 1 rest) → map listed (take i table) ++ lists_in (n - i) rest ≡ all →
+    map listed (take (i + 1) (set table i t)) ++ lists_in (n - (i + 1)) (drop (get_or rest 0 0) (drop 1 rest)) ≡ all
+constructor_push rest n i table t all less low h e f =
     let one_more : n - i ≡ suc (n - (i + 1)) = omega arith in
-    let first = list_at lists place n i less h in
-    let rest = lists_in (n - (i + 1)) (drop (place + 1 + get_or lists place 0) lists) in
-    let x = take (get_or lists place 0) (drop (place + 1) lists) in
-    ap (λ k. k ++ rest) (map_entry table i t low listed (map listed (take i table)) x refl e)
-    ∙ append_assoc (map listed (take i table)) (x ∷ []) rest
-    ∙ ap (λ k. map listed (take i table) ++ k) (sym first.are ∙ ap (λ k. lists_in k (drop place lists)) (sym one_more))
+    let first = list_at rest n i less h in
+    let others = lists_in (n - (i + 1)) (drop (get_or rest 0 0) (drop 1 rest)) in
+    let x = take (get_or rest 0 0) (drop 1 rest) in
+    ap (λ k. k ++ others) (map_entry table i t low listed (map listed (take i table)) x refl e)
+    ∙ append_assoc (map listed (take i table)) (x ∷ []) others
+    ∙ ap (λ k. map listed (take i table) ++ k) (sym first.are ∙ ap (λ k. lists_in k rest) (sym one_more))
     ∙ f
 
 -- a function's entry stands for what was read

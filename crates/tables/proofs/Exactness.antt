@@ -8,7 +8,7 @@ use Rattle.syntax.specs.Problems.{Each, concat, encode_type, encode_unknown, enc
 use Rattle.records.specs.Raw.{Raw, RawFunction, write_function, write_goal, write, Within}
 use Rattle.records.specs.Reading.{Read, read, and_then, preceded, type_of, function_of, byte_of, part_of, starts, many, end_of, all_of, records}
 use Rattle.tables.specs.Exact.{Bytes, ReadingExact}
-use Rattle.records.proofs.Sound.{same_read, no_read}
+use Rattle.records.proofs.Sound.{same_read}
 use Rattle.records.proofs.Nexts.{starts_sound}
 use Rattle.tables.proofs.RecordKinds.{Kind, each_right, type_kind, function_kind, unknown_kind, goal_kind, FineType, FineFunction}
 
@@ -51,13 +51,13 @@ module _ {A : Type 0} {one : ℕ → List ℕ → ℕ → Result (Read A) Fault}
   section_sound zero bs p xs rest q e = by (starts a b bs) e
     where
       by : (t : Bool) → cond t (Err (fault BadCount p)) (read [] bs p) ≡ read xs rest q → SectionSound w K zero bs xs rest
-      by true e = no_read e
+      by true e = cc
       by false e = none_read e
   section_sound (suc n) bs p xs rest q e = by (section_sound n) (starts a b bs) refl (one p (drop 2 bs) (p + 2)) refl e
     where
       more : SoundUpTo n → starts a b bs ≡ true → (r : Read A) → one p (drop 2 bs) (p + 2) ≡ Ok r → (d : Result (Read (List A)) Fault) → many one a b n r.rest r.at ≡ d →
           preceded r.value d ≡ read xs rest q → SectionSound w K (suc n) bs xs rest
-      more fewer t r h (Err g) k e = no_read e
+      more fewer t r h (Err g) k e = cc
       more fewer t r h (Ok s) k e =
           let whole = one_read t h (fewer r.rest r.at s.value s.rest s.at k) in
           subst (λ z. SectionSound w K (suc n) bs z.value z.rest) (same_read e) whole
@@ -65,7 +65,7 @@ module _ {A : Type 0} {one : ℕ → List ℕ → ℕ → Result (Read A) Fault}
       by : SoundUpTo n → (t : Bool) → starts a b bs ≡ t → (d : Result (Read A) Fault) → one p (drop 2 bs) (p + 2) ≡ d →
           cond t (and_then d (λ r. preceded r.value (many one a b n r.rest r.at))) (read [] bs p) ≡ read xs rest q → SectionSound w K (suc n) bs xs rest
       by fewer false t d h e = none_read e
-      by fewer true t (Err g) h e = no_read e
+      by fewer true t (Err g) h e = cc
       by fewer true t (Ok r) h e = more fewer t r h (many one a b n r.rest r.at) refl e
 
   -- records that were written are read back, as far as another mark
@@ -103,19 +103,13 @@ after_functions ts fs = and_then (many byte_of 0x55 0x4B 16 fs.rest fs.at) (afte
 abbrev pub after_types : Read (List (List (List ℕ))) → Result Raw Fault
 after_types ts = and_then (many function_of 0x46 0x4E 64 ts.rest ts.at) (after_functions ts.value)
 
-pub sections_are : (bs : List ℕ) → all_of bs ≡ and_then (many type_of 0x44 0x54 31 bs 0) after_types
-sections_are bs = refl
-
 pub short_enough : (bs : List ℕ) → length bs ≤ 16384 → records bs ≡ all_of bs
 short_enough bs h = cond-true (leb (length bs) 16384) (all_of bs) (Err (fault TooLong 16384)) (le-leb (length bs) 16384 h)
-
-refused_never : {A : Type 0} {X : Type 0} {f : Fault} {x : A} → ◌≡◌ {A = Result A Fault} (Err f) (Ok x) → X
-refused_never e = let z : ◌≡◌ {A = ℕ} 0 1 = cc in absurd (omega arith)
 
 -- a step that came to an answer
 then_ok : {A B : Type 0} {y : B} (d : Result A Fault) (k : A → Result B Fault) → and_then d k ≡ Ok y → (x : A) × (d ≡ Ok x) × (k x ≡ Ok y)
 then_ok (Ok x) k e = (x, refl, e)
-then_ok (Err f) k e = refused_never e
+then_ok (Err f) k e = cc
 
 pub end_sound : {A : Type 0} (x y : A) (xs : List ℕ) (p : ℕ) → end_of x xs p ≡ Ok y → (x ≡ y) × (xs ≡ encode_end)
 end_sound {A} x y xs p e = by (starts 0x45 0x4E xs) refl (leb (length xs) 2) refl e
@@ -128,8 +122,8 @@ end_sound {A} x y xs p e = by (starts 0x45 0x4E xs) refl (leb (length xs) 2) ref
 
     by : (t : Bool) → starts 0x45 0x4E xs ≡ t → (u : Bool) → leb (length xs) 2 ≡ u →
         ◌≡◌ {A = Result A Fault} (cond t (cond u (Ok x) (Err (fault BytesAfter (p + 2)))) (Err (fault NoMark p))) (Ok y) → (x ≡ y) × (xs ≡ encode_end)
-    by false h u k e = refused_never e
-    by true h false k e = refused_never e
+    by false h u k e = cc
+    by true h false k e = cc
     by true h true k e = (cc, nothing_after xs (leb-true (length xs) 2 k) (starts_sound 0x45 0x4E xs h))
 
 -- all sections of records that were read
@@ -149,7 +143,7 @@ sections_sound : (bs : List ℕ) (r : Raw) → records bs ≡ Ok r → SectionsS
 sections_sound bs r e = by (leb (length bs) 16384) refl e
   where
     by : (t : Bool) → leb (length bs) 16384 ≡ t → cond t (all_of bs) (Err (fault TooLong 16384)) ≡ Ok r → SectionsSound bs r
-    by false h e = refused_never e
+    by false h e = cc
     by true h e =
         let s = then_ok (many type_of 0x44 0x54 31 bs 0) after_types e in
         let ts = s.0 in

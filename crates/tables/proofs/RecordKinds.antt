@@ -10,11 +10,7 @@ use Rattle.records.specs.Raw.{RawFunction, write_function, write_goal, Few}
 use Rattle.records.specs.Reading.{Read, read, and_then, preceded, byte_of, bytes_of, list_of, lists_of, type_of, part_of, function_of, starts}
 use Rattle.tables.specs.Exact.{Bytes}
 use Rattle.records.proofs.Nexts.{function_from, function_written}
-use Rattle.records.proofs.Sound.{same_read, no_read, byte_sound, list_sound, part_from}
-
-pub each_left : {A : Type 0} (P : A → Type 0) (xs ys : List A) → Each P (xs ++ ys) → Each P xs
-each_left P [] ys h = tt
-each_left P (x ∷ xs) ys h = (h.0, each_left P xs ys h.1)
+use Rattle.records.proofs.Sound.{same_read, byte_sound, list_sound, part_from}
 
 pub each_right : {A : Type 0} (P : A → Type 0) (xs ys : List A) → Each P (xs ++ ys) → Each P ys
 each_right P [] ys h = h
@@ -70,7 +66,7 @@ lists_sound m (suc n) bs p xs rest q e = by (lists_sound m n) (list_of m bs p) r
   where
     more : ListsSound m n → {x : List ℕ} {bs₁ : List ℕ} {p₁ : ℕ} → list_of m bs p ≡ read x bs₁ p₁ → (d : Result (Read (List (List ℕ))) Fault) → lists_of m n bs₁ p₁ ≡ d → preceded x d ≡ read xs rest q →
         (bs ≡ concat encode_list xs ++ rest) × (length xs ≡ suc n) × Each Few xs
-    more fewer f (Err g) h e = no_read e
+    more fewer f (Err g) h e = cc
     more fewer {x} {bs₁} {p₁} f (Ok s) h e =
         let l = list_sound m bs p f in
         let r = fewer bs₁ p₁ s.value s.rest s.at h in
@@ -82,18 +78,18 @@ lists_sound m (suc n) bs p xs rest q e = by (lists_sound m n) (list_of m bs p) r
 
     by : ListsSound m n → (d : Result (Read (List ℕ)) Fault) → list_of m bs p ≡ d → and_then d (λ r. preceded r.value (lists_of m n r.rest r.at)) ≡ read xs rest q →
         (bs ≡ concat encode_list xs ++ rest) × (length xs ≡ suc n) × Each Few xs
-    by fewer (Err g) h e = no_read e
+    by fewer (Err g) h e = cc
     by fewer (Ok r) h e = more fewer h (lists_of m n r.rest r.at) refl e
 
 abbrev pub FineType : List (List ℕ) → Type 0
 FineType cs = (1 ≤ length cs) × (length cs ≤ 16) × Each Few cs
 
 type_sound : {cs : List (List ℕ)} {rest : List ℕ} {q : ℕ} (m : ℕ) (bs : List ℕ) (p : ℕ) → type_of m bs p ≡ read cs rest q → (bs ≡ length cs ∷ (concat encode_list cs ++ rest)) × FineType cs
-type_sound m [] p e = no_read e
+type_sound m [] p e = cc
 type_sound {cs} {rest} {q} m (n ∷ bs) p e = by (leb 1 n && leb n 16) refl e
   where
     by : (t : Bool) → (leb 1 n && leb n 16) ≡ t → cond t (lists_of m n bs (p + 1)) (Err (fault BadCount p)) ≡ read cs rest q → (n ∷ bs ≡ length cs ∷ (concat encode_list cs ++ rest)) × FineType cs
-    by false l e = no_read e
+    by false l e = cc
     by true l e =
         let s = lists_sound m n bs (p + 1) cs rest q e in
         let both = and_parts (leb 1 n) (leb n 16) l in
@@ -129,8 +125,8 @@ unknown_kind =
 
 -- a part that was read, of bytes
 pub part_sound : {x rest : List ℕ} {q : ℕ} (m : ℕ) (bs : List ℕ) (p : ℕ) → Bytes bs → part_of m bs p ≡ read x rest q → bs ≡ encode_part x ++ rest
-part_sound m [] p h e = no_read e
-part_sound m (b ∷ []) p h e = no_read e
+part_sound m [] p h e = cc
+part_sound m (b ∷ []) p h e = cc
 part_sound m (b ∷ (l ∷ bs)) p h e =
     let again : p + 1 + 1 ≡ p + 2 = omega arith in
     (part_from {bs₁ = l ∷ bs} {bs₂ = bs} m (b ∷ (l ∷ bs)) p refl refl h.1.0 (ap (λ k. bytes_of m (256 * b + l) bs k) again ∙ e)).1
@@ -159,7 +155,7 @@ function_parts {f} {rest} {q} m bs p e = first (list_of m bs p) refl e
   where
     third : (ps : Read (List ℕ)) → list_of m bs p ≡ Ok ps → (t : Read ℕ) → byte_of m ps.rest ps.at ≡ Ok t → (d : Result (Read (List ℕ)) Fault) → part_of m t.rest t.at ≡ d →
         and_then d (λ b. read (record { profile = record { params = ps.value; result = t.value }; body = b.value }) b.rest b.at) ≡ read f rest q → FunctionParts m bs p f rest q
-    third ps h t k (Err g) l e = no_read e
+    third ps h t k (Err g) l e = cc
     third ps h t k (Ok b) l e =
         let s = same_read e in
         record {
@@ -175,13 +171,13 @@ function_parts {f} {rest} {q} m bs p e = first (list_of m bs p) refl e
     second : (ps : Read (List ℕ)) → list_of m bs p ≡ Ok ps → (d : Result (Read ℕ) Fault) → byte_of m ps.rest ps.at ≡ d →
         and_then d (λ t. and_then (part_of m t.rest t.at) (λ b. read (record { profile = record { params = ps.value; result = t.value }; body = b.value }) b.rest b.at)) ≡ read f rest q →
         FunctionParts m bs p f rest q
-    second ps h (Err g) k e = no_read e
+    second ps h (Err g) k e = cc
     second ps h (Ok t) k e = third ps h t k (part_of m t.rest t.at) refl e
 
     first : (d : Result (Read (List ℕ)) Fault) → list_of m bs p ≡ d →
         and_then d (λ ps. and_then (byte_of m ps.rest ps.at) (λ t. and_then (part_of m t.rest t.at) (λ b. read (record { profile = record { params = ps.value; result = t.value }; body = b.value }) b.rest b.at))) ≡ read f rest q →
         FunctionParts m bs p f rest q
-    first (Err g) h e = no_read e
+    first (Err g) h e = cc
     first (Ok ps) h e = second ps h (byte_of m ps.rest ps.at) refl e
 
 abbrev pub FineFunction : RawFunction → Type 0

@@ -12,13 +12,6 @@ use Rattle.records.specs.Readers.{ahead_of}
 use Rattle.tables.specs.Sections.{Section}
 use Rattle.records.proofs.Runs.{led, led_none, led_push, front_push}
 
--- two different answers are never equal
-pub clash : {A : Type 0} {X : Type 0} {x : A} → ◌≡◌ {A = Result (Option A) Fault} (Ok None) (Ok (Some x)) → X
-clash e = let z : ◌≡◌ {A = ℕ} 0 1 = cc in absurd (omega arith)
-
-refuse : {A : Type 0} {X : Type 0} {o : Option A} {f : Fault} → ◌≡◌ {A = Result (Option A) Fault} (Err f) (Ok o) → X
-refuse e = let z : ◌≡◌ {A = ℕ} 0 1 = cc in absurd (omega arith)
-
 same_some : {A : Type 0} {x y : A} → ◌≡◌ {A = Result (Option A) Fault} (Ok (Some x)) (Ok (Some y)) → x ≡ y
 same_some e = cc
 
@@ -31,8 +24,8 @@ module _ {A : Type 0} (one : ℕ → List ℕ → ℕ → Result (Read A) Fault)
   had_room zero {r} e = by (starts a b bs) e
     where
       by : (t : Bool) → cond t (Err (fault BadCount p)) (Ok None) ≡ Ok (Some r) → 0 < 0
-      by true e = refuse e
-      by false e = clash e
+      by true e = cc
+      by false e = cc
   had_room (suc n) e = omega arith
 
   pub many_some : (n : ℕ) {r : Read A} → next one a b (suc n) bs p ≡ Ok (Some r) → many one a b (suc n) bs p ≡ preceded r.value (many one a b n r.rest r.at)
@@ -41,21 +34,21 @@ module _ {A : Type 0} (one : ℕ → List ℕ → ℕ → Result (Read A) Fault)
       by : (t : Bool) (d : Result (Read A) Fault) → cond t (and_then d (λ s. Ok (Some s))) (Ok None) ≡ Ok (Some r) →
           cond t (and_then d (λ s. preceded s.value (many one a b n s.rest s.at))) (read [] bs p) ≡ preceded r.value (many one a b n r.rest r.at)
       by true (Ok s) e = ap (λ s. preceded s.value (many one a b n s.rest s.at)) (same_some e)
-      by true (Err f) e = refuse e
-      by false d e = clash e
+      by true (Err f) e = cc
+      by false d e = cc
 
   pub many_none : (room : ℕ) → next one a b room bs p ≡ Ok None → many one a b room bs p ≡ read [] bs p
   many_none zero e = by (starts a b bs) e
     where
       by : (t : Bool) → ◌≡◌ {A = Result (Option (Read A)) Fault} (cond t (Err (fault BadCount p)) (Ok None)) (Ok None) → ◌≡◌ {A = Result (Read (List A)) Fault} (cond t (Err (fault BadCount p)) (read [] bs p)) (read [] bs p)
-      by true e = refuse e
+      by true e = cc
       by false e = refl
   many_none (suc n) e = by (starts a b bs) (one p (drop 2 bs) (p + 2)) e
     where
       by : (t : Bool) (d : Result (Read A) Fault) → cond t (and_then d (λ s. Ok (Some s))) (Ok None) ≡ Ok None →
           cond t (and_then d (λ s. preceded s.value (many one a b n s.rest s.at))) (read [] bs p) ≡ read [] bs p
-      by true (Ok s) e = clash (sym e)
-      by true (Err f) e = refuse e
+      by true (Ok s) e = cc
+      by true (Err f) e = cc
       by false d e = refl
 
   pub many_refused : (room : ℕ) {f : Fault} → next one a b room bs p ≡ Err f → many one a b room bs p ≡ Err f
@@ -63,14 +56,14 @@ module _ {A : Type 0} (one : ℕ → List ℕ → ℕ → Result (Read A) Fault)
     where
       by : (t : Bool) → ◌≡◌ {A = Result (Option (Read A)) Fault} (cond t (Err (fault BadCount p)) (Ok None)) (Err f) → ◌≡◌ {A = Result (Read (List A)) Fault} (cond t (Err (fault BadCount p)) (read [] bs p)) (Err f)
       by true e = ap Err (same_fault e)
-      by false e = refuse (sym e)
+      by false e = cc
   many_refused (suc n) {f} e = by (starts a b bs) (one p (drop 2 bs) (p + 2)) e
     where
       by : (t : Bool) (d : Result (Read A) Fault) → cond t (and_then d (λ s. Ok (Some s))) (Ok None) ≡ Err f →
           cond t (and_then d (λ s. preceded s.value (many one a b n s.rest s.at))) (read [] bs p) ≡ Err f
-      by true (Ok s) e = refuse (sym e)
+      by true (Ok s) e = cc
       by true (Err g) e = ap Err (same_fault e)
-      by false d e = refuse (sym e)
+      by false d e = cc
 
 -- Of at most so many records, xs were read.
 pub record Upto {A : Type 0} (one : ℕ → List ℕ → ℕ → Result (Read A) Fault) (w : A → List ℕ) (a b most : ℕ) (before after : Reader) (xs : List A) : Type 0 where

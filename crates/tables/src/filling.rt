@@ -14,7 +14,7 @@ use syntax::tables::{Callable, Datatype, Span};
 const LONGEST: usize = 16384;
 
 // Room for all that a problem may declare; how much of each table is filled is in `Counts`.
-// Kept as it is: arrays with counts beside them, since a check of bytes allocates nothing.
+// Kept as it is: arrays with counts beside them, since a check of bytes has no heap.
 #[derive(Clone, Copy)]
 pub struct WorkTables {
     pub types: [Datatype; 32],

@@ -28,12 +28,11 @@ pub(crate) fn datatype(item: TypeRecord) -> Datatype
     ensures marked { result.at ≡ item.entry.at }
 {
     let mut constructors = [TypeList::EMPTY; 16];
-    let count = usize::from(item.count);
-    let mut place: usize = 0;
-    for c in 0..count {
-        let end = place + 1 + usize::from(item.constructors[place]);
-        constructors[c] = TypeList::new(&item.constructors[place + 1..end]);
-        place = end;
+    let mut rest = item.constructors;
+    for list in &mut constructors[..usize::from(item.count)] {
+        let (types, others) = rest[1..].split_at(usize::from(rest[0]));
+        *list = TypeList::new(types);
+        rest = others;
     }
     Datatype {
         at: item.at,

@@ -1,19 +1,9 @@
-use Rattle.std.proofs.Common.{◌≡◌, ◌-◌, ◌≤◌, length, take, refl, ap, ◌∙◌, subst, arith}
-use Rattle.std.proofs.lemmas.Result.{err_from_is_err_and}
+use Rattle.std.proofs.Common.{◌≡◌, ◌-◌, ◌≤◌, take, ◌∙◌, subst, arith}
 use Rattle.syntax.specs.Problems.{concat, encode_list}
 use Rattle.records.specs.Readers.{ahead_of}
-use Rattle.records.proofs.Runs.{Listed, listed_none, listed_more, listed_refused, listed_all}
+use Rattle.records.proofs.Runs.{Listed, listed_more, listed_all}
 use Rattle.records.proofs.Passed.{place_after, between_places}
 use Rattle.records.proofs.reader.Reader.lists.Goals as goal
-
-pub loop-init : goal.loop-init
-loop-init c = (refl, listed_none c.args.mark c.args.count (ahead_of c.args.self.now) c.args.self.now.at)
-
-pub returns-in_err-list : goal.returns-in_err-list
-returns-in_err-list c =
-    let f = listed_refused c.loop.invariant.1 c.loop-test.true c.in_err-list.ensures.1 in
-    let p = err_from_is_err_and c.from_residual.result c.from_residual.ensures.1 in
-    rw (p.1, p.2) record { takes = (refl, f); written = tt }
 
 pub loop-preserved : goal.loop-preserved
 loop-preserved c =
@@ -29,9 +19,6 @@ pub slice_bounds-part-start : goal.slice_bounds-part-start
 slice_bounds-part-start c =
     let l = c.loop.invariant.1 in
     omega (arith, place_after c.args.self.now c.loop.ahead (concat encode_list l.xs) c.loop.invariant.0 l.front)
-
-pub slice_bounds-part-end : goal.slice_bounds-part-end
-slice_bounds-part-end c = omega (arith, c.loop.ahead.within, ap length c.loop.invariant.0)
 
 pub returns : goal.returns
 returns c =
