@@ -1,6 +1,6 @@
 -- What the records that a reader hands out stand for. Assumes nothing.
-use Rattle.std.specs.Prelude.{◌≡◌, ℕ, ◌+◌, ◌≤◌, List, ◌∷◌, ◌++◌, length}
-use Rattle.records.specs.Raw.{RawFunction, write_function, Few}
+use Rattle.std.specs.Prelude.{◌≡◌, ℕ, ◌+◌, ◌≤◌, List, length}
+use Rattle.records.specs.Raw.{RawFunction, Few}
 use Rattle.records.specs.Next.{lists_in, Lists}
 use Rattle.records.specs.declared.kinds.TypeRecord.{TypeRecord}
 use Rattle.records.specs.declared.kinds.FunctionRecord.{FunctionRecord}
@@ -18,13 +18,6 @@ pub record TypeHeld (m : ℕ) (x : TypeRecord) : Type 0 where
   pub some : 1 ≤ x.count
   pub few : x.count ≤ 16
   pub lists : Lists x.count x.constructors.now
-
--- a function record with its mark at m, read from the bytes bs behind the mark, of which the first stands at p; the rest is left
-pub record FunctionRead (m p : ℕ) (bs : List ℕ) (x : FunctionRecord) (rest : List ℕ) : Type 0 where
-  pub marked : x.at ≡ m
-  pub few : Few x.params.now
-  pub starts : x.start ≡ p + (4 + length x.params.now)
-  pub written : 0x46 ∷ (0x4E ∷ bs) ≡ write_function (function_held x) ++ rest
 
 -- a function record with its mark at m: its body stands behind the mark, the parameters with their count, the result and the length
 pub record FunctionHeld (m : ℕ) (x : FunctionRecord) : Type 0 where

@@ -78,6 +78,7 @@ pub(crate) fn goal(item: GoalRecord) -> Span
 
 // Fills a table from the front with the records of one kind, of which there may be as many as the table has room for.
 // How many there are.
+// Kept as it is: a count beside the table, which is lent memory; the reader says how long the loop goes on.
 pub(crate) fn fill<'a, R: Record<'a>, T: Drop, F: Fn(R) -> T>(
     reader: &mut Reader<'a>,
     table: &mut [T],
