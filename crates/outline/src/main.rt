@@ -31,6 +31,7 @@ fn next_place(p: &Problem, place: usize, view: View) -> usize {
 }
 
 // The terms within the term at a place, itself first. Each stands after the one before, so there are no more than bytes.
+// Kept as it is: a count of rounds, since no clause says that `while place < end` would end.
 fn tell_term(rt: &HostRuntime, p: &Problem, start: usize) -> io::Result<()> {
     let end = p.after(start);
     let mut place = start;
@@ -45,6 +46,8 @@ fn tell_term(rt: &HostRuntime, p: &Problem, start: usize) -> io::Result<()> {
     Ok(())
 }
 
+// Kept as it is: types, constructors, functions and goals are gone through by their numbers, here and above, since the calls of a
+// problem take numbers.
 fn tell(rt: &HostRuntime, line: &str) -> io::Result<()> {
     let Some((name, text)) = line.split_once(' ') else {
         return Ok(());

@@ -34,6 +34,7 @@ pub enum View {
         left: usize,
         right: usize,
     },
+    // Kept as it is: a case of the view and no Option of one, since the public call `view` answers every place with a View.
     Nothing,
 }
 

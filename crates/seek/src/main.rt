@@ -29,6 +29,7 @@ fn tell_type(rt: &HostRuntime, problem: &Problem, t: u8) -> io::Result<()> {
     println!(rt; "")
 }
 
+// Kept as it is: types and constructors are gone through by their numbers, here and above, since the calls of a problem take numbers.
 fn tell(rt: &HostRuntime, problem: &Problem) -> io::Result<()> {
     let types = problem.types();
     let functions = problem.functions();

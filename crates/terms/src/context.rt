@@ -11,7 +11,8 @@ use crate::tasks::{Opened, Task, Wanted};
 use reading::parts::{Part, Tag};
 use syntax::tables::Signature;
 
-// The declarations, and the types of the variables: each scope is a front of the one array.
+// The declarations, and the types of the variables.
+// Kept as it is: one array of which each scope is a front, as long as its task says, since a check of bytes allocates nothing.
 #[derive(Drop)]
 pub struct Context<'a> {
     pub sig: Signature<'a>,

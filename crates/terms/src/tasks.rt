@@ -52,7 +52,8 @@ impl Wanted {
     }
 }
 
-// A stack of at most N tasks. It is an array, so that nothing is allocated.
+// A stack of at most N tasks.
+// Kept as it is: an array with a length beside it, since a check of bytes allocates nothing.
 #[derive(Drop)]
 pub struct Stack<const N: usize> {
     tasks: [Task; N],
