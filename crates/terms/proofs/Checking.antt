@@ -15,6 +15,14 @@ pub by_ok : {A E : Type 0} (P : Type 0) (Q : A → Type 0) (o : Option A) (e : E
 by_ok P Q None e x q m = absurd (cc)
 by_ok P Q (Some y) e x q m = let same : y ≡ x = cc in subst Q same m
 
+pub some_by_ok : {A E : Type 0} (o : Option A) (e : E) (x : A) → ok_or o e ≡ Ok x → o ≡ Some x
+some_by_ok None e x q = absurd (cc)
+some_by_ok (Some y) e x q = cc
+
+pub none_by_err : {A E : Type 0} (o : Option A) (e f : E) → ok_or o e ≡ Err f → (o ≡ None) × (f ≡ e)
+none_by_err None e f q = (refl, cc)
+none_by_err (Some y) e f q = absurd (cc)
+
 abbrev pub answer : Result Terms ℕ → Result (Unit {0}) Fault
 answer r = verdict (first_read r)
 

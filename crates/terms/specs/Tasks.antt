@@ -87,6 +87,11 @@ abbrev pub put : Option Task → List Task → List Task
 put None ts = ts
 put (Some x) ts = x ∷ ts
 
+-- where no task is next, none is left
+abbrev pub NoneLeft : Option Task → List Task → Type 0
+NoneLeft None ts = ts ≡ []
+NoneLeft (Some x) ts = Unit {0}
+
 -- the items of the tasks, the topmost first
 abbrev pub stack_of : Sig → List ℕ → List Task → List Item
 stack_of sig s [] = []
@@ -111,6 +116,7 @@ pub record Moves (sig : Sig) (is : List Item) (b : ℕ) (is' : List Item) : Type
   pub good : allowed sig top b ≡ true
   pub then : is' ≡ asked sig top b ++ others
 
+-- ts were left before the byte, and ts' are left after it
 pub record Advances (sig : Sig) (s s' : List ℕ) (ts ts' : List Task) (b : ℕ) : Type 0 where
   pub few : length ts' ≤ length ts + 1
   pub piled : Piled sig ts' 64

@@ -1,9 +1,9 @@
 // The check of a term, a byte at a time.
-ghost use Rattle.std.specs.Prelude.{◌≡◌, ◌+◌, ◌^◌, ◌<◌, ◌≤◌, length, MatchOption};
+ghost use Rattle.std.specs.Prelude.{◌≡◌, ◌+◌, ◌^◌, ◌∷◌, ◌<◌, ◌≤◌, length, MatchOption};
 ghost use Rattle.syntax.specs.Tables.{declared_in};
 ghost use Rattle.reading.specs.Reading.{reading, verdict};
 ghost use Rattle.reading.specs.Verdicts.{Says};
-ghost use Rattle.terms.specs.Tasks.{stack_of, Piled, Stops, Advances};
+ghost use Rattle.terms.specs.Tasks.{put, stack_of, Piled, NoneLeft, Stops, Advances};
 
 use crate::context::Context;
 use crate::tasks::{Opened, Stack, Task, Wanted};
@@ -27,19 +27,25 @@ impl<'a> Model for Checker<'a> {
     ghost view = { λ c. declared_in c.context.sig };
 }
 
-// A byte comes, where the tasks are still to be read; none if it is refused.
-fn advance<const N: usize>(context: &mut Context, tasks: &mut Stack<N>, b: u8) -> Option<()>
+// A byte comes where a task is next and others are left: the task that is next then, if any; none if the byte is refused.
+fn advance<const N: usize>(
+    context: &mut Context,
+    tasks: &mut Stack<N>,
+    task: Task,
+    b: u8,
+) -> Option<Option<Task>>
     requires room { length tasks.old < N }
-    requires piled { Piled (declared_in context.old.sig) tasks.old 64 }
+    requires piled { Piled (declared_in context.old.sig) (task ∷ tasks.old) 64 }
     ensures sig { context.new.sig ≡ context.old.sig }
-    ensures is { MatchOption result (Stops (declared_in context.old.sig) (stack_of (declared_in context.old.sig) context.old.scope tasks.old) b) (λ _. Advances (declared_in context.old.sig) context.old.scope context.new.scope tasks.old tasks.new b) }
+    ensures is { MatchOption result (Stops (declared_in context.old.sig) (stack_of (declared_in context.old.sig) context.old.scope (task ∷ tasks.old)) b) (λ next. Advances (declared_in context.old.sig) context.old.scope context.new.scope (task ∷ tasks.old) (put next tasks.new) b × NoneLeft next tasks.new) }
 {
-    let task = tasks.pop()?;
     let Opened { first, rest } = context.open(task)?;
     let then = context.read(first, b)?;
     tasks.put(rest);
-    tasks.put(then);
-    Some(())
+    match then {
+        Some(task) => Some(Some(task)),
+        None => Some(tasks.pop()),
+    }
 }
 
 impl<'a> Checker<'a> {
@@ -72,11 +78,13 @@ impl<'a> Checker<'a> {
         let context = &mut self.context;
         context.lay(variables);
         tasks.restart(Task::One(Wanted::whole(wanted, variables.len() as u8)));
+        let mut next = tasks.pop();
         for (at, b) in bytes.iter().enumerate() {
             let refused = Reason::BadTerm.at(base + at);
-            advance(context, tasks, *b).ok_or(refused)?;
+            let task = next.ok_or(refused)?;
+            next = advance(context, tasks, task, *b).ok_or(refused)?;
         }
-        match tasks.pop() {
+        match next {
             None => Ok(()),
             Some(_) => Err(Reason::BadTerm.at(base + bytes.len())),
         }

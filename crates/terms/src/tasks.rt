@@ -1,6 +1,6 @@
 // What is still to be read of a term.
-ghost use Rattle.std.specs.Prelude.{◌≡◌, ◌<◌, [], ◌∷◌, length, MatchOption, Some};
-ghost use Rattle.terms.specs.Tasks.{whole, put};
+ghost use Rattle.std.specs.Prelude.{◌≡◌, ◌<◌, [], ◌∷◌, length, Some};
+ghost use Rattle.terms.specs.Tasks.{whole, put, NoneLeft};
 
 use reading::parts::Part;
 use std::marker::Model;
@@ -111,7 +111,8 @@ impl<const N: usize> Stack<N> {
 
     // Takes the topmost task; none if there is none.
     pub fn pop(&mut self) -> Option<Task>
-        ensures { MatchOption result (self.old ≡ []) (λ x. self.old ≡ x ∷ self.new) }
+        ensures taken { self.old ≡ put result self.new }
+        ensures last { NoneLeft result self.new }
     {
         if self.len == 0 {
             return None;

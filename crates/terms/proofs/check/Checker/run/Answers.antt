@@ -1,25 +1,47 @@
-use Rattle.std.proofs.Common.{◌≡◌, ◌+◌, ◌<◌, Err, get_or, length, ap, sym, ◌∙◌, subst, arith}
+use Rattle.std.proofs.Common.{◌≡◌, ◌+◌, ◌<◌, ◌≤◌, [], ◌∷◌, Some, None, Err, get_or, length, ap, sym, ◌∙◌, subst, drop, arith}
+use Rattle.std.proofs.lemmas.Result.{err_from_is_err_and}
 use Rattle.syntax.specs.Tables.{declared_in}
 use Rattle.syntax.specs.Typing.{Sig}
-use Rattle.terms.specs.Tasks.{stack_of, Advances}
+use Rattle.reading.specs.Reading.{reads}
+use Rattle.terms.specs.Tasks.{stack_of, put, NoneLeft, Stops, Advances}
 use Rattle.terms.proofs.Piles.{some}
-use Rattle.terms.proofs.Checking.{by_ok, refused_at, goes_on, ends, lacks}
+use Rattle.terms.proofs.Checking.{answer, by_ok, some_by_ok, none_by_err, refused_at, goes_on, halts, ends, lacks}
 use Rattle.terms.proofs.check.Checker.run.Goals.{in-None, in-Some}
 use Rattle.terms.proofs.check.Checker.run.Goals as goal
+
+pub returns-in_err-task-clause-exact : goal.returns-in_err-task-clause-exact
+returns-in_err-task-clause-exact g c =
+    let sig = c.args.self.now in
+    let l = c.loop-at in
+    let b = get_or c.args.bytes.now l.at 0 in
+    let none = none_by_err l.next c.at-refused.result _ (sym c.ok_or.ensures.value ∙ c.in_err-task.was) in
+    let left : l.tasks ≡ [] = subst (λ o. NoneLeft o l.tasks) none.0 l.invariant.3 in
+    let empty : stack_of sig l.context.scope (put l.next l.tasks) ≡ [] = ap (λ o. stack_of sig l.context.scope (put o l.tasks)) none.0 ∙ ap (stack_of sig l.context.scope) left in
+    let p = err_from_is_err_and c.from_residual.result c.from_residual.ensures.1 in
+    p.1 ∙ ap Err (p.2 ∙ none.1 ∙ c.at-refused.ensures)
+    ∙ sym (l.invariant.4 ∙ halts sig c.args.bytes.now c.args.base l.at (stack_of sig l.context.scope (put l.next l.tasks)) c.loop-at-test.true (subst (λ js. Stops sig js b) (sym empty) tt))
 
 pub loop-at-preserved : goal.loop-at-preserved
 loop-at-preserved g c =
     let sig = c.args.self.now in
     let l = c.loop-at in
     let b = get_or c.args.bytes.now l.at 0 in
-    let Moved : Sig → Type 0 = λ d. Advances d l.context.scope c.advance.new.context.scope l.tasks c.advance.new.tasks b in
-    let moved : Moved (declared_in l.context.sig) = by_ok _ (λ _. Moved (declared_in l.context.sig)) c.advance.result c.at-refused.result c.in_ok-ok_or.field-0 (sym c.ok_or.ensures.value ∙ c.in_ok-ok_or.was) c.advance.ensures.is in
-    let e : Moved sig = subst Moved l.invariant.1 moved in
+    let x = c.in_ok-task.task in
+    let next = c.in_ok-next.next in
+    let same = some_by_ok l.next c.at-refused.result x (sym c.ok_or.ensures.value ∙ c.in_ok-task.was) in
+    let Moved : Sig → Type 0 = λ d. Advances d l.context.scope c.advance.new.context.scope (x ∷ l.tasks) (put next c.advance.new.tasks) b in
+    let moved : Moved (declared_in l.context.sig) × NoneLeft next c.advance.new.tasks =
+        by_ok _ (λ n. Advances (declared_in l.context.sig) l.context.scope c.advance.new.context.scope (x ∷ l.tasks) (put n c.advance.new.tasks) b × NoneLeft n c.advance.new.tasks)
+        c.advance.result c.at-refused.result next (sym c.ok_or-in-loop-at.ensures.value ∙ c.in_ok-next.was) c.advance.ensures.is in
+    let e : Moved sig = subst Moved l.invariant.1 moved.0 in
+    let long = ap (λ o. length (put o l.tasks)) same in
     let few = e.few in (
       omega arith,
       ap declared_in c.advance.ensures.sig ∙ l.invariant.1,
       e.piled,
-      l.invariant.3 ∙ goes_on sig c.args.bytes.now c.args.base l.at (stack_of sig l.context.scope l.tasks) _ c.loop-at-test.true e.moves,
+      moved.1,
+      l.invariant.4 ∙ ap (λ o. answer (reads sig (stack_of sig l.context.scope (put o l.tasks)) (drop l.at c.args.bytes.now) (c.args.base + l.at))) same
+          ∙ goes_on sig c.args.bytes.now c.args.base l.at (stack_of sig l.context.scope (x ∷ l.tasks)) _ c.loop-at-test.true e.moves,
     )
 
 pub returns-clause-exact : goal.returns-clause-exact
@@ -28,13 +50,17 @@ returns-clause-exact g c =
     let l = c.loop-at in
     let base = c.args.base in
     let bytes = c.args.bytes.now in
-    let is = stack_of sig l.context.scope l.tasks in
+    let ts = put l.next l.tasks in
+    let is = stack_of sig l.context.scope ts in
     let last : base + l.at ≡ base + length bytes = omega arith in
-    elim c.match-pop.branch [
-      | in-None w ↦ w.result-is ∙ sym (l.invariant.3 ∙ ends sig bytes base l.at is c.loop-at-test.false (ap (stack_of sig l.context.scope) w.in-None.ensures))
+    elim c.match-next.branch [
+      | in-None w ↦
+          let left : l.tasks ≡ [] = subst (λ o. NoneLeft o l.tasks) w.in-None.is l.invariant.3 in
+          let empty : ts ≡ [] = ap (λ o. put o l.tasks) w.in-None.is ∙ left in
+          w.result-is ∙ sym (l.invariant.4 ∙ ends sig bytes base l.at is c.loop-at-test.false (ap (stack_of sig l.context.scope) empty))
       | in-Some w ↦
-          let up : 0 < length l.tasks = omega (arith, ap length w.in-Some.ensures) in
-          let has = some sig l.context.scope l.tasks 64 up l.invariant.2 in
+          let up : 0 < length ts = omega (arith, ap (λ o. length (put o l.tasks)) w.in-Some.is) in
+          let has = some sig l.context.scope ts 64 up l.invariant.2 in
           w.result-is ∙ ap Err w.at.ensures
-          ∙ sym (l.invariant.3 ∙ lacks sig bytes base l.at is c.loop-at-test.false has.0 has.1 has.2 ∙ ap refused_at last)
+          ∙ sym (l.invariant.4 ∙ lacks sig bytes base l.at is c.loop-at-test.false has.0 has.1 has.2 ∙ ap refused_at last)
     ]
