@@ -30,7 +30,7 @@ fn deepest_of(least: &[u8], types: &[u8]) -> u8
 }
 
 // What a constructor with arguments of these types needs.
-fn need_of(least: &[u8], arguments: &[u8]) -> u8
+fn need_over(least: &[u8], arguments: &[u8]) -> u8
     ensures is { result ≡ 1 + greatest (depth_at least.now) arguments.now }
     ensures low { result ≤ 10 }
 {
@@ -44,7 +44,7 @@ pub(crate) fn easiest(least: &[u8], datatype: &Datatype) -> u8
     datatype
         .cases()
         .iter()
-        .map(|case| need_of(least, case.types()))
+        .map(|case| need_over(least, case.types()))
         .fold(UNKNOWN, u8::min)
 }
 
@@ -53,7 +53,7 @@ pub fn need(sig: Signature, least: &[u8], t: u8, c: u8) -> u8
     ensures by { result ≡ need_by (declared_in sig.entry) least.now t c }
     ensures is { Leasts (declared_in sig.entry) least.now → result ≡ need_of (declared_in sig.entry) t c }
 {
-    need_of(least, sig.arguments(t, c))
+    need_over(least, sig.arguments(t, c))
 }
 
 // The row of a type in the table of needs; past its last constructor stands the need of a constant.
@@ -63,7 +63,7 @@ fn needs_of(least: &[u8], cases: &[TypeList]) -> [u8; 16]
 {
     let mut row = [1; 16];
     for (c, case) in cases.iter().enumerate() {
-        row[c] = need_of(least, case.types());
+        row[c] = need_over(least, case.types());
     }
     row
 }

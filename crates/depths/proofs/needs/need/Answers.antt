@@ -8,6 +8,6 @@ use Rattle.depths.proofs.needs.need.Goals as goal
 pub returns : goal.returns
 returns c =
     let least = c.args.least.now in
-    let by : c.need_of.result ≡ need_by (declared_in c.args.sig) least c.args.t c.args.c =
-    c.need_of.ensures.is ∙ ap (λ ts. 1 + greatest (depth_at least) ts) c.arguments.ensures.is in
+    let by : c.need_over.result ≡ need_by (declared_in c.args.sig) least c.args.t c.args.c =
+    c.need_over.ensures.is ∙ ap (λ ts. 1 + greatest (depth_at least) ts) c.arguments.ensures.is in
     record { by = by; is = λ right. by ∙ need_right (declared_in c.args.sig) least right c.args.t c.args.c }
