@@ -1,6 +1,6 @@
 -- What the tables hold, read through what they stand for. Assumes nothing.
-use Rattle.std.proofs.Common.{◌≡◌, ℕ, ◌<◌, ◌≤◌, min, List, [], map, length, get_or, take, ap, ◌∙◌, arith}
-use Rattle.std.proofs.lemmas.List.{length-map, length-take, get_or-map, get_or-take, get_or_past}
+use Rattle.std.proofs.Common.{◌≡◌, ℕ, ◌<◌, min, [], length, get_or, take, ap, ◌∙◌, arith}
+use Rattle.std.proofs.lemmas.List.{length-map, length-take, get_or-map, get_or-take}
 use Rattle.syntax.specs.declared.tables.TypeList.{TypeList}
 use Rattle.syntax.specs.declared.tables.Datatype.{Datatype}
 use Rattle.syntax.specs.declared.tables.Callable.{Callable}
@@ -28,7 +28,3 @@ constructor_at d c h =
     let low : c < length (take d.count d.constructors) = simp length-map at h in
     get_or-map listed (take d.count d.constructors) c no_list [] low
     ∙ ap listed (get_or-take d.count d.constructors c no_list (counted d c h).0)
-
--- past the end of a table there is nothing
-pub past : {X Y : Type 0} (f : X → Y) (xs : List X) (i : ℕ) (d : Y) → length xs ≤ i → get_or (map f xs) i d ≡ d
-past f xs i d h = get_or_past (map f xs) i d (let l = length-map xs f in omega arith)
