@@ -1,10 +1,12 @@
 -- A row taken apart at its first clause: what comes of that clause, and of the row behind it.
-use Rattle.std.proofs.Common.{◌≡◌, ℕ, zero, suc, ◌-◌, ◌*◌, ◌≤◌, Bool, true, false, ◌&&◌, ◌||◌, eqb, ltb, List, [], ◌∷◌, length, take, drop, sym, refl, ap, ◌∙◌, arith}
+use Rattle.std.proofs.Common.{◌≡◌, ℕ, zero, suc, ◌-◌, ◌*◌, ◌<◌, ◌≤◌, Bool, true, false, ◌&&◌, ◌||◌, eqb, ltb, List, [], ◌∷◌, length, min, take, drop, sym, refl, ap, ◌∙◌, subst, ⊎_elim, arith}
 use mathlib.Core.Bool.{and-true, or-false, or_assoc}
 use lib.Dec.{eqb-suc-zero}
-use Rattle.std.proofs.lemmas.Bool.{and_parts, and_from, both_ways, cond-false}
+use Rattle.std.proofs.lemmas.List.{take_all, drop_all}
+use Rattle.std.proofs.lemmas.Bool.{cases_lt, and_parts, and_from, both_ways, cond-false}
 use Rattle.chooser.specs.Ways.{some, allotted}
-use Rattle.rows.specs.Rows.{inside, holds}
+use Rattle.rows.proofs.Lits.{false_from}
+use Rattle.rows.specs.Rows.{inside, holds, clauses_behind, clauses_of}
 
 holds_ended : (f : ℕ → Bool) (m : Bool) (xs : List ℕ) → holds f m 0 xs ≡ (m && holds f true 0 xs)
 holds_ended f m [] = sym (and-true m)
@@ -33,3 +35,43 @@ inside_clause v (suc n) (x ∷ xs) e =
     let parts = and_parts (ltb x (2 * v)) (inside v (suc n - 1) xs) (sym (cond-false (eqb (suc n) 0) (inside v x xs) (ltb x (2 * v) && inside v (suc n - 1) xs) (eqb-suc-zero n)) ∙ e) in
     let rest = inside_clause v n xs (ap (λ k. inside v k xs) (sym less) ∙ parts.1) in
     record { fits = let h = rest.fits in omega arith; named = and_from (ltb x (2 * v)) (allotted v (take n xs)) parts.0 rest.named; behind = rest.behind }
+
+-- one clause more is whole, or it is cut short or has a literal that is not allotted
+module _ (v : ℕ) where
+  pub inside_short : (n : ℕ) (xs : List ℕ) → length xs < n → inside v n xs ≡ false
+  inside_short n xs lt = false_from (inside v n xs) (λ e. let h = (inside_clause v n xs e).fits in omega arith)
+
+  pub inside_strange : (n : ℕ) (xs : List ℕ) → allotted v (take n xs) ≡ false → inside v n xs ≡ false
+  inside_strange n xs off = false_from (inside v n xs) (λ e. both_ways (allotted v (take n xs)) off (inside_clause v n xs e).named)
+
+  pub inside_next : (n : ℕ) (xs : List ℕ) → n ≤ length xs → allotted v (take n xs) ≡ true → inside v n xs ≡ inside v 0 (drop n xs)
+  inside_next zero xs le on = refl
+  inside_next (suc n) [] le on = let z : ⊥ = omega arith in absurd z
+  inside_next (suc n) (x ∷ xs) le on =
+      let less : suc n - 1 ≡ n = omega arith in
+      let p = and_parts (ltb x (2 * v)) (allotted v (take n xs)) on in
+      cond-false (eqb (suc n) 0) (inside v x xs) (ltb x (2 * v) && inside v (suc n - 1) xs) (eqb-suc-zero n)
+      ∙ ap (λ b. b && inside v (suc n - 1) xs) p.0
+      ∙ ap (λ k. inside v k xs) less
+      ∙ inside_next n xs (omega arith) p.1
+
+clauses_drop : (n : ℕ) (xs : List ℕ) → clauses_behind n xs ≡ clauses_of (drop n xs)
+clauses_drop zero xs = refl
+clauses_drop (suc n) [] = refl
+clauses_drop (suc n) (x ∷ xs) =
+    let less : suc n - 1 ≡ n = omega arith in
+    cond-false (eqb (suc n) 0) (take x xs ∷ clauses_behind x xs) (clauses_behind (suc n - 1) xs) (eqb-suc-zero n) ∙ ap (λ k. clauses_behind k xs) less ∙ clauses_drop n xs
+
+-- the first clause, and the row behind it
+pub clauses_first : (n k : ℕ) (xs : List ℕ) → k ≡ min (length xs) n → clauses_of (n ∷ xs) ≡ take k xs ∷ clauses_of (drop k xs)
+clauses_first n k xs is =
+    ⊎_elim
+    (λ lt. let e : k ≡ n = omega arith in subst (λ i. clauses_of (n ∷ xs) ≡ take i xs ∷ clauses_of (drop i xs)) (sym e) (ap (λ l. take n xs ∷ l) (clauses_drop n xs)))
+    (λ ge.
+    let e : length xs ≤ k = omega arith in
+    ap (λ l. take n xs ∷ l) (clauses_drop n xs ∙ ap clauses_of (drop_all n xs ge ∙ sym (drop_all k xs e))) ∙ ap (λ l. l ∷ clauses_of (drop k xs)) (take_all n xs ge ∙ sym (take_all k xs e)))
+    (cases_lt n (length xs))
+
+-- the clauses that are left are fewer
+pub clauses_fewer : (row : List ℕ) (clause : List ℕ) (next : List ℕ) → clauses_of row ≡ clause ∷ clauses_of next → length (clauses_of next) < length (clauses_of row)
+clauses_fewer row clause next e = omega (arith, ap length e)

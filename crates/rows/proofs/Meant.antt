@@ -1,10 +1,11 @@
 -- What each call of a chooser over a row shows of its meaning.
-use Rattle.std.proofs.Common.{◌≡◌, ℕ, ◌+◌, ◌<◌, ◌≤◌, true, List, ◌∷◌, ◌++◌, length, refl, arith, length-append}
+use Rattle.std.proofs.Common.{◌≡◌, ℕ, ◌+◌, ◌<◌, ◌≤◌, true, List, ◌∷◌, ◌++◌, length, refl, arith, length-append, vec_items}
 use Rattle.chooser.specs.Ways.{lit, allotted}
-use Rattle.chooser.specs.Meaning.{Meaning, Same, Local}
+use Rattle.chooser.specs.Meaning.{Meaning, Same, Local, Lawful}
 use Rattle.chooser.specs.Steps.{Grown, Added}
 use Rattle.rows.specs.Rows.{inside}
 use Rattle.rows.specs.Meant.{meant}
+use Rattle.rows.specs.Store.{store_means}
 use Rattle.rows.proofs.Rows.{holds_same, holds_append}
 use Rattle.rows.proofs.Lits.{lit_below}
 
@@ -33,3 +34,11 @@ module _ (row : List ℕ) (size most v : ℕ) where
 
     pub meant_spent : (meant (row ++ (length clause ∷ clause)) size most v).left + (length clause + 1) ≡ (meant row size most v).left
     meant_spent = omega (arith, length-append row (length clause ∷ clause))
+
+-- the laws of what a store of clauses means
+pub store_laws : Lawful store_means 4096
+store_laws = record {
+  local = λ s. meant_local (vec_items s.row) s.entries 4096 s.count s.whole;
+  whole = λ s. let h = s.few in omega arith;
+  small = omega arith;
+}
