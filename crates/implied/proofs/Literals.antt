@@ -2,7 +2,7 @@
 use Rattle.std.proofs.Common.{◌≡◌, ℕ, ◌/◌, ◌%◌, Bool, true, false, not, eqb, sym, refl, ap, ◌∙◌, ⊎_elim, arith}
 use Rattle.std.proofs.lemmas.Bool.{cases_eq, cond-true, cond-false, eq-eqb, ne_eqb}
 use Rattle.chooser.specs.Ways.{lit}
-use Rattle.implied.specs.Implied.{Turned}
+use Rattle.rows.specs.Lits.{Turned}
 
 lit_even : (p : ℕ → Bool) (l : ℕ) → l % 2 ≡ 0 → lit p l ≡ p (l / 2)
 lit_even p l e = cond-true (eqb (l % 2) 0) (p (l / 2)) (not (p (l / 2))) (eq-eqb (l % 2) 0 e)

@@ -1,5 +1,5 @@
 -- A clause added to the row leaves fewer ways, and each of them meets it.
-use Rattle.std.proofs.Common.{◌≡◌, ℕ, Bool, true, List, ◌∷◌, ◌++◌, length, sym, ap, ◌∙◌}
+use Rattle.std.proofs.Common.{◌≡◌, ℕ, Bool, true, false, cond, List, ◌∷◌, ◌++◌, length, sym, ap, ◌∙◌}
 use Rattle.std.proofs.lemmas.Bool.{and_parts}
 use Rattle.chooser.specs.Ways.{lit, some}
 use Rattle.rows.specs.Rows.{inside}
@@ -15,3 +15,8 @@ module _ (row row' clause : List ℕ) (v : ℕ) (whole : inside v 0 row ≡ true
 
   pub clause_met : some (lit p) clause ≡ true
   clause_met = both.1
+
+-- where the row is as it was, or has one clause more, no way is allowed that was not
+pub allowed_fewer : (row row' clause : List ℕ) (v : ℕ) (added : Bool) → inside v 0 row ≡ true → row' ≡ cond added (row ++ (length clause ∷ clause)) row → (p : ℕ → Bool) → allowed row' p ≡ true → allowed row p ≡ true
+allowed_fewer row row' clause v true whole rows p x = allowed_before row row' clause v whole rows p x
+allowed_fewer row row' clause v false whole rows p x = ap (λ r. allowed r p) (sym rows) ∙ x

@@ -1,6 +1,6 @@
 -- What is known of the allowed ways: clauses that each of them meets, literals that each of them makes false. X says which
 -- ways are allowed.
-use Rattle.std.specs.Prelude.{◌≡◌, ℕ, ◌/◌, ◌<◌, Bool, true, false, List, [], length, ◌≢◌, slice_index_or}
+use Rattle.std.specs.Prelude.{◌≡◌, ℕ, ◌<◌, Bool, true, false, List, [], length, slice_index_or}
 use Rattle.chooser.specs.Ways.{lit, some}
 use Rattle.rows.specs.Rows.{holds}
 
@@ -15,7 +15,3 @@ Met X clauses = (c : ℕ) → c < length clauses → (p : ℕ → Bool) → X p 
 -- a literal that is marked is false at every allowed way
 abbrev pub Off : ((ℕ → Bool) → Bool) → List Bool → Type 0
 Off X off = (m : ℕ) → slice_index_or off m false ≡ true → (p : ℕ → Bool) → X p ≡ true → lit p m ≡ false
-
--- r is the other literal of the variable of l
-abbrev pub Turned : ℕ → ℕ → Type 0
-Turned l r = (r / 2 ≡ l / 2) × (r ≢ l)

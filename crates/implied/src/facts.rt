@@ -1,47 +1,49 @@
-ghost use Rattle.std.specs.Prelude.{◌≡◌, ℕ, ◌+◌, ◌^◌, ◌<◌, ◌≤◌, Bool, true, false, [], ◌∷◌, ◌++◌, length, vec_len, vec_capacity, IfOk};
+ghost use Rattle.std.specs.Prelude.{◌≡◌, ℕ, ◌+◌, ◌^◌, ◌<◌, ◌≤◌, Bool, true, false, [], ◌∷◌, ◌++◌, length, IfOk, is_ok, if◌then◌else◌};
 ghost use Rattle.chooser.specs.Ways.{lit, some};
-ghost use Rattle.rows.specs.Rows.{inside};
 ghost use Rattle.implied.specs.Implied.{allowed, Met, Off};
 
 use crate::pool::Pool;
-use crate::turned;
-use rows::push_clause;
+use chooser::Fault;
+use rows::{ClauseStore, turned};
 use std::alloc::{AllocError, Global};
 use std::mem::swap;
 
 // What is known of the allowed ways.
 #[derive(Drop)]
 pub struct Facts {
-    // The clauses that were added, each as its length and then its literals.
-    pub row: Vec<u16>,
+    // The clauses that were added.
+    pub store: ClauseStore,
     // Clauses that every allowed way meets, added and learned ones.
     pub pool: Pool,
     // Of each literal, whether every allowed way makes it false, as far as is known.
     off: Vec<bool>,
-    ghost met: { Met (allowed row.items) pool },
-    ghost offs: { Off (allowed row.items) off.items },
+    ghost met: { Met (allowed store.row.items) pool },
+    ghost offs: { Off (allowed store.row.items) off.items },
 }
 
 impl Facts {
-    // Makes room for so many entries of the row, and for numbers and clauses of the pool. Every way is allowed.
+    ghost use Rattle.chooser.specs.Steps.{NewVariable, Add};
+    ghost use Rattle.rows.specs.Store.{store_means, Spent};
+
+    // Knows nothing but what the store has, which is empty. The pool has room for so many numbers and clauses.
     pub fn new(
         heap: Global,
-        entries: usize,
+        store: ClauseStore,
         numbers: usize,
         clauses: usize,
     ) -> Result<Facts, AllocError>
-        ensures rows { IfOk result (λ f. f.row.items ≡ []) }
-        ensures room { IfOk result (λ f. vec_capacity f.row ≡ entries) }
+        ensures { IfOk result (λ f. f.store ≡ store) }
     {
-        let row = Vec::with_capacity(heap, entries)?;
-        let pool = Pool::new(heap, numbers, clauses)?;
-        let off = vec![in heap; false; 8192]?;
-        Ok(Facts { row, pool, off })
+        Ok(Facts {
+            store,
+            pool: Pool::new(heap, numbers, clauses)?,
+            off: vec![in heap; false; 8192]?,
+        })
     }
 
     // Returns whether it is known that every allowed way makes the literal false.
     pub fn is_off(&self, l: u16) -> bool
-        ensures { result ≡ true → (p : ℕ → Bool) → allowed self.now.row.items p ≡ true → lit p l ≡ false }
+        ensures { result ≡ true → (p : ℕ → Bool) → allowed self.now.store.row.items p ≡ true → lit p l ≡ false }
     {
         let l = l as usize;
         l < self.off.len() && self.off[l]
@@ -49,8 +51,8 @@ impl Facts {
 
     // Marks the literal known true: its opposite is off.
     pub fn mark_true(&mut self, l: u16)
-        requires { (p : ℕ → Bool) → allowed self.old.row.items p ≡ true → lit p l ≡ true }
-        ensures { self.new.row ≡ self.old.row }
+        requires { (p : ℕ → Bool) → allowed self.old.store.row.items p ≡ true → lit p l ≡ true }
+        ensures { self.new.store ≡ self.old.store }
     {
         let t = turned(l) as usize;
         if t < self.off.len() {
@@ -60,7 +62,7 @@ impl Facts {
 
     // Marks the literal `l` known true, if the clause `c` shows it: each other literal of the clause is off.
     pub fn fix(&mut self, c: u32, l: u16)
-        ensures { self.new.row ≡ self.old.row }
+        ensures { self.new.store ≡ self.old.store }
     {
         let Some(clause) = self.pool.clause(c) else {
             return;
@@ -75,29 +77,34 @@ impl Facts {
 
     // Puts a clause into the pool that every allowed way meets, and returns its number; None where there is no room.
     pub fn learn(&mut self, clause: &[u16]) -> Option<u32>
-        requires { (p : ℕ → Bool) → allowed self.old.row.items p ≡ true → some (lit p) clause.now ≡ true }
-        ensures { self.new.row ≡ self.old.row }
+        requires { (p : ℕ → Bool) → allowed self.old.store.row.items p ≡ true → some (lit p) clause.now ≡ true }
+        ensures { self.new.store ≡ self.old.store }
     {
         self.pool.push(clause)
     }
 
     // Has the clauses of `spare` in place of those in the pool, which `spare` then has.
     pub fn exchange(&mut self, spare: &mut Pool)
-        requires { Met (allowed self.old.row.items) spare.old }
-        ensures { self.new.row ≡ self.old.row }
+        requires { Met (allowed self.old.store.row.items) spare.old }
+        ensures { self.new.store ≡ self.old.store }
     {
         swap(&mut self.pool, spare);
     }
 
-    // Adds a clause to the row, over variables of which `count` are allotted, in room that was reserved.
-    pub fn add(&mut self, count: u16, clause: &[u16])
-        requires room { vec_len self.old.row + (length clause.now + 1) ≤ vec_capacity self.old.row }
-        requires small { length clause.now < 2 ^ 16 }
-        requires whole { inside count 0 self.old.row.items ≡ true }
-        ensures items { self.new.row.items ≡ self.old.row.items ++ (length clause.now ∷ clause.now) }
-        ensures cap { vec_capacity self.new.row ≡ vec_capacity self.old.row }
-        ensures len { vec_len self.new.row ≡ vec_len self.old.row + (length clause.now + 1) }
+    // Allots a variable and returns its number.
+    pub fn new_variable(&mut self) -> Result<u16, Fault>
+        ensures grows { NewVariable (store_means self.old.store) (store_means self.new.store) result }
+        ensures row { self.new.store.row.items ≡ self.old.store.row.items }
     {
-        push_clause(&mut self.row, clause);
+        self.store.new_variable()
+    }
+
+    // Puts the clause into the store. What is known of the allowed ways is known of those that are left.
+    pub fn add(&mut self, clause: &[u16]) -> Result<(), Fault>
+        ensures adds { Add (store_means self.old.store) (store_means self.new.store) clause.now result }
+        ensures spends { Spent (store_means self.old.store) (store_means self.new.store) clause.now result }
+        ensures row { self.new.store.row.items ≡ (if is_ok result then self.old.store.row.items ++ (length clause.now ∷ clause.now) else self.old.store.row.items) }
+    {
+        self.store.add(clause)
     }
 }

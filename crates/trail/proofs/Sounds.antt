@@ -5,7 +5,7 @@ use Rattle.std.proofs.lemmas.List.{get_or_append_left, get_or-take, length-take-
 use Rattle.std.proofs.Math.Seq.{get_or-append_seam}
 use Rattle.chooser.specs.Ways.{lit}
 use Rattle.weight.proofs.Rises.{pushes}
-use Rattle.implied.specs.Implied.{Turned}
+use Rattle.rows.specs.Lits.{Turned}
 use Rattle.implied.proofs.Literals.{lit_off, turned_back}
 use Rattle.trail.specs.declared.step.Value.{Value}
 use Rattle.trail.specs.declared.step.Value.TheVariants.{False, Open}

@@ -1,10 +1,10 @@
-ghost use Rattle.std.specs.Prelude.{◌≡◌, ◌+◌, ◌^◌, ◌<◌, ◌≤◌, true, [], ◌∷◌, ◌++◌, ◌≢◌, length, vec_len, vec_capacity, IfOk};
-ghost use Rattle.rows.specs.Rows.{inside};
+ghost use Rattle.std.specs.Prelude.{◌≡◌, ◌<◌, ◌∷◌, ◌++◌, ◌≢◌, length, IfOk, is_ok, if◌then◌else◌};
 ghost use Rattle.implied.specs.Implied.{allowed};
 ghost use Rattle.trail.specs.Trails.{Sound, Follows};
 
 use crate::step::{Reason, Value};
 use crate::trail::Trail;
+use chooser::Fault;
 use implied::Facts;
 use std::alloc::{AllocError, Global};
 
@@ -13,10 +13,12 @@ use std::alloc::{AllocError, Global};
 pub struct Search {
     pub facts: Facts,
     pub trail: Trail,
-    ghost steady: { Sound (allowed facts.row.items) trail.values trail.positions trail.steps.items },
+    ghost steady: { Sound (allowed facts.store.row.items) trail.values trail.positions trail.steps.items },
 }
 
 impl Search {
+    ghost use Rattle.chooser.specs.Steps.{NewVariable, Add};
+    ghost use Rattle.rows.specs.Store.{store_means, Spent};
     ghost use Rattle.trail.specs.Steps.{Pushed, Popped, Cleared};
 
     // Begins with an empty trail.
@@ -31,7 +33,7 @@ impl Search {
 
     // Puts the literal on the trail, if its variable is open.
     pub fn push(&mut self, l: u16, reason: Reason) -> bool
-        requires { (reason ≢ Reason.Decision) → Follows (allowed self.old.facts.row.items) self.old.trail.steps.items (length self.old.trail.steps.items) l }
+        requires { (reason ≢ Reason.Decision) → Follows (allowed self.old.facts.store.row.items) self.old.trail.steps.items (length self.old.trail.steps.items) l }
         ensures { Pushed self.old self.new l reason result }
     {
         let v = (l / 2) as usize;
@@ -61,15 +63,20 @@ impl Search {
         self.trail.clear();
     }
 
-    // Adds a clause to the row, over variables of which `count` are allotted, in room that was reserved.
-    pub fn add(&mut self, count: u16, clause: &[u16])
-        requires room { vec_len self.old.facts.row + (length clause.now + 1) ≤ vec_capacity self.old.facts.row }
-        requires small { length clause.now < 2 ^ 16 }
-        requires whole { inside count 0 self.old.facts.row.items ≡ true }
-        ensures items { self.new.facts.row.items ≡ self.old.facts.row.items ++ (length clause.now ∷ clause.now) }
-        ensures cap { vec_capacity self.new.facts.row ≡ vec_capacity self.old.facts.row }
-        ensures len { vec_len self.new.facts.row ≡ vec_len self.old.facts.row + (length clause.now + 1) }
+    // Allots a variable and returns its number.
+    pub fn new_variable(&mut self) -> Result<u16, Fault>
+        ensures grows { NewVariable (store_means self.old.facts.store) (store_means self.new.facts.store) result }
+        ensures row { self.new.facts.store.row.items ≡ self.old.facts.store.row.items }
     {
-        self.facts.add(count, clause);
+        self.facts.new_variable()
+    }
+
+    // Puts the clause into the store. The trail stays as it is, since what follows from less follows from more.
+    pub fn add(&mut self, clause: &[u16]) -> Result<(), Fault>
+        ensures adds { Add (store_means self.old.facts.store) (store_means self.new.facts.store) clause.now result }
+        ensures spends { Spent (store_means self.old.facts.store) (store_means self.new.facts.store) clause.now result }
+        ensures row { self.new.facts.store.row.items ≡ (if is_ok result then self.old.facts.store.row.items ++ (length clause.now ∷ clause.now) else self.old.facts.store.row.items) }
+    {
+        self.facts.add(clause)
     }
 }

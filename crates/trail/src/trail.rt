@@ -3,7 +3,7 @@ ghost use Rattle.trail.specs.Trails.{literal_at};
 ghost use Rattle.trail.specs.Values.{Refuted, Holds, Valued};
 
 use crate::step::{Reason, Step, Value, making};
-use implied::turned;
+use rows::turned;
 use std::alloc::{AllocError, Global};
 
 // Literals in the order in which they were put, and what is known of each variable.

@@ -4,4 +4,4 @@ use Rattle.implied.specs.Implied.{allowed}
 use Rattle.implied.proofs.facts.Facts.fix.Given as goal
 
 abbrev pub invariant-loop-m : goal.invariant-loop-m
-invariant-loop-m l = (p : ℕ → Bool) → allowed l.fn.self.row.items p ≡ true → (k : ℕ) → k < l.m-index → (lit p (get_or l.clause k 0) ≡ false) ⊎ (get_or l.clause k 0 ≡ l.l)
+invariant-loop-m l = (p : ℕ → Bool) → allowed l.fn.self.store.row.items p ≡ true → (k : ℕ) → k < l.m-index → (lit p (get_or l.clause k 0) ≡ false) ⊎ (get_or l.clause k 0 ≡ l.l)

@@ -11,4 +11,4 @@ invariant_of-self c =
     let e = c.put.ensures in
     let free : Free t.values c.args.l = search rules in
     let small : c.args.l / 2 < 4096 = c.if-v-ge4096.false in
-    record { steady = rw (e.values, e.positions, e.steps) (sound_push (allowed old.facts.row.items) t.values t.positions t.steps.items old.steady c.args.l e.level c.args.reason small free c.requires) }
+    record { steady = rw (e.values, e.positions, e.steps) (sound_push (allowed old.facts.store.row.items) t.values t.positions t.steps.items old.steady c.args.l e.level c.args.reason small free c.requires) }
