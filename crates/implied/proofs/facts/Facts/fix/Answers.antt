@@ -17,6 +17,6 @@ loop-m-preserved c p x =
 pub mark_true-requires : goal.mark_true-requires
 mark_true-requires c p x =
     let clause = c.in-Some.clause.now in
-    let known = c.in-Some.ensures in
+    let known = c.in-Some.ensures.clause in
     let met : some (lit p) clause ≡ true = ap (some (lit p)) known.1 ∙ c.args.self.now.met c.args.c known.0 p x in
     some_only (lit p) c.args.l clause (λ k lt. c.loop-m.invariant p x k (omega arith)) met
