@@ -1,4 +1,4 @@
-use Rattle.std.proofs.Common.{◌≡◌, ◌≤◌, length, take}
+use Rattle.std.proofs.Common.{◌≤◌, length}
 use Rattle.activity.specs.Cuts.{Kept}
 use Rattle.activity.proofs.unwind.Given as goal
 
