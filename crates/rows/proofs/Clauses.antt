@@ -4,6 +4,7 @@ use mathlib.Core.Bool.{and-true, or-false, or_assoc}
 use lib.Dec.{eqb-suc-zero}
 use Rattle.std.proofs.lemmas.List.{take_all, drop_all}
 use Rattle.std.proofs.lemmas.Bool.{cases_lt, and_parts, and_from, both_ways, cond-false}
+use Rattle.std.specs.List.{list_all}
 use Rattle.chooser.specs.Ways.{some, allotted}
 use Rattle.rows.proofs.Lits.{false_from}
 use Rattle.rows.specs.Rows.{inside, holds, clauses_behind, clauses_of}
@@ -55,12 +56,40 @@ module _ (v : ℕ) where
       ∙ ap (λ k. inside v k xs) less
       ∙ inside_next n xs (omega arith) p.1
 
+behind_more : (n x : ℕ) (xs : List ℕ) → clauses_behind (suc n) (x ∷ xs) ≡ clauses_behind n xs
+behind_more n x xs =
+    let less : suc n - 1 ≡ n = omega arith in
+    cond-false (eqb (suc n) 0) (take x xs ∷ clauses_behind x xs) (clauses_behind (suc n - 1) xs) (eqb-suc-zero n) ∙ ap (λ k. clauses_behind k xs) less
+
+-- a row is met where each of its clauses is
+holds_behind : (f : ℕ → Bool) (m : Bool) (n : ℕ) (xs : List ℕ) → holds f m n xs ≡ ((m || some f (take n xs)) && list_all (some f) (clauses_behind n xs))
+holds_behind f m zero [] = sym (and-true (m || false) ∙ or-false m)
+holds_behind f m (suc n) [] = sym (and-true (m || false) ∙ or-false m)
+holds_behind f m zero (x ∷ xs) = ap (λ b. m && b) (holds_behind f false x xs) ∙ ap (λ b. b && (some f (take x xs) && list_all (some f) (clauses_behind x xs))) (sym (or-false m))
+holds_behind f m (suc n) (x ∷ xs) =
+    let less : suc n - 1 ≡ n = omega arith in
+    cond-false (eqb (suc n) 0) (m && holds f false x xs) (holds f (m || f x) (suc n - 1) xs) (eqb-suc-zero n)
+    ∙ ap (λ k. holds f (m || f x) k xs) less
+    ∙ holds_behind f (m || f x) n xs
+    ∙ ap (λ b. b && list_all (some f) (clauses_behind n xs)) (or_assoc m (f x) (some f (take n xs)))
+    ∙ ap (λ l. (m || (f x || some f (take n xs))) && list_all (some f) l) (sym (behind_more n x xs))
+
+pub holds_clauses : (f : ℕ → Bool) (row : List ℕ) → holds f true 0 row ≡ list_all (some f) (clauses_of row)
+holds_clauses f row = holds_behind f true 0 row
+
+-- the clauses of a whole row have allotted literals
+pub clauses_named : (v n : ℕ) (xs : List ℕ) → inside v n xs ≡ true → list_all (allotted v) (clauses_behind n xs) ≡ true
+clauses_named v n [] e = refl
+clauses_named v zero (x ∷ xs) e = and_from (allotted v (take x xs)) (list_all (allotted v) (clauses_behind x xs)) (inside_clause v x xs e).named (clauses_named v x xs e)
+clauses_named v (suc n) (x ∷ xs) e =
+    let less : suc n - 1 ≡ n = omega arith in
+    let p = and_parts (ltb x (2 * v)) (inside v (suc n - 1) xs) (sym (cond-false (eqb (suc n) 0) (inside v x xs) (ltb x (2 * v) && inside v (suc n - 1) xs) (eqb-suc-zero n)) ∙ e) in
+    ap (list_all (allotted v)) (behind_more n x xs) ∙ clauses_named v n xs (ap (λ k. inside v k xs) (sym less) ∙ p.1)
+
 clauses_drop : (n : ℕ) (xs : List ℕ) → clauses_behind n xs ≡ clauses_of (drop n xs)
 clauses_drop zero xs = refl
 clauses_drop (suc n) [] = refl
-clauses_drop (suc n) (x ∷ xs) =
-    let less : suc n - 1 ≡ n = omega arith in
-    cond-false (eqb (suc n) 0) (take x xs ∷ clauses_behind x xs) (clauses_behind (suc n - 1) xs) (eqb-suc-zero n) ∙ ap (λ k. clauses_behind k xs) less ∙ clauses_drop n xs
+clauses_drop (suc n) (x ∷ xs) = behind_more n x xs ∙ clauses_drop n xs
 
 -- the first clause, and the row behind it
 pub clauses_first : (n k : ℕ) (xs : List ℕ) → k ≡ min (length xs) n → clauses_of (n ∷ xs) ≡ take k xs ∷ clauses_of (drop k xs)

@@ -1,5 +1,6 @@
 -- Literals under two ways, and lists of literals of which some or every one passes.
-use Rattle.std.proofs.Common.{◌≡◌, ℕ, zero, suc, ◌+◌, ◌-◌, ◌*◌, ◌/◌, ◌%◌, ◌<◌, Bool, true, false, cond, not, ◌&&◌, ◌||◌, eqb, ltb, ◌⊎◌, List, [], ◌∷◌, length, get_or, sym, refl, ap, ◌∙◌, subst, ⊎_elim, arith}
+use Rattle.std.proofs.Common.{◌≡◌, ℕ, zero, suc, ◌+◌, ◌-◌, ◌*◌, ◌/◌, ◌%◌, ◌<◌, Bool, true, false, cond, not, ◌&&◌, ◌||◌, eqb, ltb, ◌⊎◌, List, [], ◌∷◌, ◌++◌, length, get_or, sym, refl, ap, ◌∙◌, subst, ⊎_elim, arith}
+use mathlib.Core.Bool.{and_assoc, or_assoc}
 use Rattle.std.proofs.lemmas.Bool.{and_parts, and_from, or_cases, or_left, or_right, not-true, both_ways, ltb-true, lt-ltb, le-ltb, cases_lt, cases_eq, cond-true, cond-false, eq-eqb, ne_eqb}
 use Rattle.std.specs.List.{list_all}
 use Rattle.chooser.specs.Ways.{lit, some, every, allotted, bits}
@@ -52,6 +53,14 @@ module _ (f : ℕ → Bool) where
   pub every_from : (c : List ℕ) → ((k : ℕ) → k < length c → f (get_or c k 0) ≡ true) → every f c ≡ true
   every_from [] h = refl
   every_from (x ∷ xs) h = and_from (f x) (every f xs) (h 0 (omega arith)) (every_from xs (λ k l. h (suc k) (omega arith)))
+
+pub every_append : (f : ℕ → Bool) (xs ys : List ℕ) → every f (xs ++ ys) ≡ (every f xs && every f ys)
+every_append f [] ys = refl
+every_append f (x ∷ xs) ys = ap (λ b. f x && b) (every_append f xs ys) ∙ sym (and_assoc (f x) (every f xs) (every f ys))
+
+pub some_append : (f : ℕ → Bool) (xs ys : List ℕ) → some f (xs ++ ys) ≡ (some f xs || some f ys)
+some_append f [] ys = refl
+some_append f (x ∷ xs) ys = ap (λ b. f x || b) (some_append f xs ys) ∙ sym (or_assoc (f x) (some f xs) (some f ys))
 
 -- each passes, as the library says it
 pub every_all : (f : ℕ → Bool) (xs : List ℕ) → list_all f xs ≡ every f xs
