@@ -1,4 +1,4 @@
-ghost use Rattle.std.specs.Prelude.{◌≡◌};
+ghost use Rattle.std.specs.Prelude.{◌≡◌, true, false, ◌≢◌};
 ghost use Rattle.trail.specs.Values.{making};
 
 // The value of a variable.
@@ -23,6 +23,15 @@ pub struct Step {
     pub literal: u16,
     pub level: u16,
     pub reason: Reason,
+}
+
+impl Step {
+    pub fn is_decision(&self) -> bool
+        ensures yes { result ≡ true → self.now.reason ≡ Reason.Decision }
+        ensures no { result ≡ false → self.now.reason ≢ Reason.Decision }
+    {
+        matches!(self.reason, Reason::Decision)
+    }
 }
 
 // Returns the value of its variable that makes the literal true.

@@ -1,5 +1,6 @@
-ghost use Rattle.std.specs.Prelude.{◌≡◌, ◌-◌, ◌/◌, ◌<◌, true, [], length, replicate, vec_capacity, IfOk};
-ghost use Rattle.trail.specs.Trails.{literal_at};
+ghost use Rattle.std.specs.Prelude.{◌≡◌, ◌-◌, ◌/◌, ◌<◌, true, [], length, replicate, vec_capacity, IfOk, IfSome};
+ghost use Rattle.rows.specs.Lits.{Turned};
+ghost use Rattle.trail.specs.Trails.{step_at, literal_at};
 ghost use Rattle.trail.specs.Values.{Refuted, Holds, Valued};
 
 use crate::step::{Reason, Step, Value, making};
@@ -70,6 +71,30 @@ impl Trail {
         })
     }
 
+    // Returns the step at the place `j`.
+    pub fn step(&self, j: usize) -> Step
+        requires { j < length self.now.steps.items }
+        ensures { result ≡ step_at self.now.steps.items j }
+    {
+        self.steps[j]
+    }
+
+    // Returns where the opposite of the literal stands.
+    pub fn place_against(&self, l: u16) -> Option<usize>
+        ensures { IfSome result (λ j. (j < length self.now.steps.items) × Turned (literal_at self.now.steps.items j) l) }
+    {
+        let v = (l / 2) as usize;
+        if v >= 4096 {
+            return None;
+        }
+        let j = self.positions[v] as usize;
+        if j < self.steps.len() && self.step(j).literal == turned(l) {
+            Some(j)
+        } else {
+            None
+        }
+    }
+
     // Returns how many decisions were made.
     pub fn levels(&self) -> u16 {
         self.decisions.len() as u16
@@ -103,7 +128,7 @@ impl Trail {
         ensures { TakenLast self.old self.new result }
     {
         let step = self.steps.pop().unwrap();
-        if step.reason == Reason::Decision {
+        if step.is_decision() {
             let _ = self.decisions.pop();
         }
         self.values[(step.literal / 2) as usize] = Value::Open;
