@@ -1,5 +1,5 @@
 // How far a search has come.
-#[derive(Drop)]
+#[derive(Clone, Copy, PartialEq, Eq, Debug)]
 pub struct Plan {
     // The assumptions before `next` are on the trail, before the place `firm`. Other decisions stand behind `firm`, once every
     // assumption is on the trail.
@@ -9,5 +9,5 @@ pub struct Plan {
     pub queue: usize,
     pub fixed: usize,
     // The clause that is false, after a clash.
-    pub clash: u32,
+    pub clash: Option<u32>,
 }
