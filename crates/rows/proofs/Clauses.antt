@@ -1,27 +1,14 @@
 -- A row taken apart at its first clause: what comes of that clause, and of the row behind it.
-use Rattle.std.proofs.Common.{◌≡◌, ℕ, zero, suc, ◌-◌, ◌*◌, ◌<◌, ◌≤◌, Bool, true, false, ◌&&◌, ◌||◌, eqb, ltb, List, [], ◌∷◌, length, min, take, drop, sym, refl, ap, ◌∙◌, subst, ⊎_elim, arith}
+use Rattle.std.proofs.Common.{◌≡◌, ℕ, zero, suc, ◌+◌, ◌-◌, ◌*◌, ◌<◌, ◌≤◌, Bool, true, false, ◌&&◌, ◌||◌, eqb, ltb, List, [], ◌∷◌, length, min, take, drop, sym, refl, ap, ◌∙◌, subst, ⊎_elim, arith}
 use mathlib.Core.Bool.{and-true, or-false, or_assoc}
 use lib.Dec.{eqb-suc-zero}
-use Rattle.std.proofs.lemmas.List.{take_all, drop_all}
-use Rattle.std.proofs.lemmas.Bool.{cases_lt, and_parts, and_from, both_ways, cond-false}
-use Rattle.std.specs.List.{list_all}
+use Rattle.std.proofs.lemmas.List.{take_all, drop_all, length-take-le}
+use Rattle.std.proofs.lemmas.List.Sums.{sum_by-cons}
+use Rattle.std.proofs.lemmas.Bool.{eqb-true, cases_lt, and_parts, and_from, both_ways, cond-false}
+use Rattle.std.specs.List.{list_all, sum_by}
 use Rattle.chooser.specs.Ways.{some, allotted}
 use Rattle.rows.proofs.Lits.{false_from}
 use Rattle.rows.specs.Rows.{inside, holds, clauses_behind, clauses_of}
-
-holds_ended : (f : ℕ → Bool) (m : Bool) (xs : List ℕ) → holds f m 0 xs ≡ (m && holds f true 0 xs)
-holds_ended f m [] = sym (and-true m)
-holds_ended f m (x ∷ xs) = refl
-
-pub holds_clause : (f : ℕ → Bool) (n : ℕ) (xs : List ℕ) (m : Bool) → n ≤ length xs → holds f m n xs ≡ ((m || some f (take n xs)) && holds f true 0 (drop n xs))
-holds_clause f zero xs m le = holds_ended f m xs ∙ ap (λ b. b && holds f true 0 xs) (sym (or-false m))
-holds_clause f (suc n) [] m le = let z : ⊥ = omega arith in absurd z
-holds_clause f (suc n) (x ∷ xs) m le =
-    let less : suc n - 1 ≡ n = omega arith in
-    cond-false (eqb (suc n) 0) (m && holds f false x xs) (holds f (m || f x) (suc n - 1) xs) (eqb-suc-zero n)
-    ∙ ap (λ k. holds f (m || f x) k xs) less
-    ∙ holds_clause f n xs (m || f x) (omega arith)
-    ∙ ap (λ b. b && holds f true 0 (drop n xs)) (or_assoc m (f x) (some f (take n xs)))
 
 pub record Whole (v n : ℕ) (xs : List ℕ) : Type 0 where
   pub fits : n ≤ length xs
@@ -85,6 +72,17 @@ clauses_named v (suc n) (x ∷ xs) e =
     let less : suc n - 1 ≡ n = omega arith in
     let p = and_parts (ltb x (2 * v)) (inside v (suc n - 1) xs) (sym (cond-false (eqb (suc n) 0) (inside v x xs) (ltb x (2 * v) && inside v (suc n - 1) xs) (eqb-suc-zero n)) ∙ e) in
     ap (list_all (allotted v)) (behind_more n x xs) ∙ clauses_named v n xs (ap (λ k. inside v k xs) (sym less) ∙ p.1)
+
+-- and each number of the row is a literal of one of them, or its length
+pub clauses_spread : (v n : ℕ) (xs : List ℕ) → inside v n xs ≡ true → sum_by (λ c. length c + 1) (clauses_behind n xs) + n ≡ length xs
+clauses_spread v n [] e = omega (arith, eqb-true n 0 e)
+clauses_spread v zero (x ∷ xs) e =
+    let long = length-take-le x xs (inside_clause v x xs e).fits in
+    omega (arith, clauses_spread v x xs e, sum_by-cons (λ c. length c + 1) (take x xs) (clauses_behind x xs))
+clauses_spread v (suc n) (x ∷ xs) e =
+    let less : suc n - 1 ≡ n = omega arith in
+    let p = and_parts (ltb x (2 * v)) (inside v (suc n - 1) xs) (sym (cond-false (eqb (suc n) 0) (inside v x xs) (ltb x (2 * v) && inside v (suc n - 1) xs) (eqb-suc-zero n)) ∙ e) in
+    omega (arith, clauses_spread v n xs (ap (λ k. inside v k xs) (sym less) ∙ p.1), ap (sum_by (λ c. length c + 1)) (behind_more n x xs))
 
 clauses_drop : (n : ℕ) (xs : List ℕ) → clauses_behind n xs ≡ clauses_of (drop n xs)
 clauses_drop zero xs = refl

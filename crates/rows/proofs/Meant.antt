@@ -1,8 +1,8 @@
 -- What each call of a chooser over a row shows of its meaning.
-use Rattle.std.proofs.Common.{◌≡◌, ℕ, ◌+◌, ◌<◌, ◌≤◌, true, List, ◌∷◌, ◌++◌, length, refl, arith, length-append, vec_items}
+use Rattle.std.proofs.Common.{◌≡◌, ℕ, ◌+◌, ◌≤◌, true, List, ◌∷◌, ◌++◌, length, refl, arith, length-append, vec_items}
 use Rattle.chooser.specs.Ways.{lit, allotted}
 use Rattle.chooser.specs.Meaning.{Meaning, Same, Local, Lawful}
-use Rattle.chooser.specs.Steps.{Grown, Added}
+use Rattle.chooser.specs.Steps.{Added}
 use Rattle.rows.specs.Rows.{inside}
 use Rattle.rows.specs.Meant.{meant}
 use Rattle.rows.specs.Store.{store_means}
@@ -15,9 +15,6 @@ same_self s = record { counts = refl; rooms = refl; leaves = refl; allows = λ p
 module _ (row : List ℕ) (size most v : ℕ) where
   pub meant_local : inside v 0 row ≡ true → Local (meant row size most v)
   meant_local s p q h = holds_same (lit p) (lit q) v (lit_below p q v h) row true 0 s
-
-  pub meant_grown : v < most → Grown (meant row size most v) (meant row size most (v + 1)) v
-  meant_grown h = record { names = refl; counts = refl; rooms = omega arith; leaves = refl; allows = λ p. refl }
 
   module _ (clause : List ℕ) (fits : length row + (length clause + 1) ≤ size) where
     pub meant_added : inside v 0 row ≡ true → allotted v clause ≡ true → Added (meant row size most v) (meant (row ++ (length clause ∷ clause)) size most v) clause
