@@ -215,7 +215,9 @@ impl Analyzer {
     }
 
     // Returns how many levels the clause joins, at most; `clash` is the number of the clash.
-    pub fn glue(&mut self, trail: &Trail, clash: u32) -> u16 {
+    pub fn glue(&mut self, trail: &Trail, clash: u32) -> u16
+        ensures { self.new.clause ≡ self.old.clause }
+    {
         let mut glue: u16 = 1;
         for m in &self.clause {
             if let Some(j) = trail.place_against(*m) {
