@@ -19,13 +19,16 @@ mod plan;
 
 pub use plan::Plan;
 
+// The literals of all variables are below it.
+const LITERALS: u16 = 8192;
+
 // Puts the literals that are known true on an empty trail.
 pub fn begin(search: &mut Search)
     ensures facts { search.new.facts ≡ search.old.facts }
     ensures forced { Forced search.new.trail.steps.items }
 {
     search.clear();
-    for l in 0..8192u16 {
+    for l in 0..LITERALS {
         put_known(search, l);
     }
 }

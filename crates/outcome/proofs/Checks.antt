@@ -1,15 +1,13 @@
 -- The clauses of a row, and what the first of them shows that written values do not meet. A literal that the written values make
 -- false is false on the trail or open; a clause of such literals, none of them open, shows the trail dead.
-use Rattle.std.proofs.Common.{◌≡◌, ℕ, zero, suc, ◌+◌, ◌-◌, ◌*◌, ◌/◌, ◌%◌, ◌<◌, Bool, true, false, not, ◌&&◌, ◌||◌, eqb, ltb, List, [], ◌∷◌, length, get_or, take, Option, Some, None, MatchOption, All, Contains, Bor, sym, refl, ap, ◌∙◌, subst, ⊎_elim, arith, add-one}
-use mathlib.Core.Bool.{and-true, or-false, or_assoc}
-use lib.Dec.{eqb-suc-zero}
-use Rattle.std.specs.List.{find, list_all, list_any}
-use Rattle.std.proofs.lemmas.Bool.{both_ways, cases_eq, cases_Bool, cond-true, cond-false, eqb-true, eqb-false, eq-eqb, ne_eqb, and_parts, not-true, not-false}
+use Rattle.std.proofs.Common.{◌≡◌, ℕ, ◌+◌, ◌/◌, ◌%◌, ◌<◌, Bool, true, false, not, ◌||◌, eqb, List, [], ◌∷◌, length, get_or, Option, Some, None, MatchOption, All, Contains, Bor, sym, refl, ap, ◌∙◌, subst, ⊎_elim, arith, add-one}
+use Rattle.std.specs.List.{find, list_any}
+use Rattle.std.proofs.lemmas.Bool.{both_ways, cases_eq, cases_Bool, cond-true, cond-false, eqb-true, eqb-false, eq-eqb, ne_eqb, not-true, not-false}
 use Rattle.std.proofs.lemmas.List.Elements.{All-nil, All-cons, All-contains, All-weaker}
 use Rattle.std.proofs.lemmas.List.Sums.{AllPass-from_list_all, list_all-from_AllPass}
 use Rattle.chooser.specs.Ways.{lit, some, every, allotted, written}
-use Rattle.rows.specs.Rows.{holds, inside, clauses_behind, clauses_of}
-use Rattle.rows.proofs.Clauses.{inside_clause}
+use Rattle.rows.specs.Rows.{holds, inside, clauses_of}
+use Rattle.rows.proofs.Clauses.{holds_clauses, clauses_named}
 use Rattle.rows.proofs.Lits.{every_from, some_none}
 use Rattle.std.specs.Option.{option_map}
 use Rattle.trail.specs.declared.step.Step.{Step}
@@ -40,32 +38,6 @@ found {X} test (x ∷ xs) =
     ] (found test xs)))
     (cases_Bool (test x))
 
--- a row holds where each of its clauses does
-holds_each : (f : ℕ → Bool) (v : ℕ) (row : List ℕ) (m : Bool) (rest : ℕ) → inside v rest row ≡ true
-    → holds f m rest row ≡ ((m || some f (take rest row)) && list_all (some f) (clauses_behind rest row))
-holds_each f v [] m zero whole = sym (and-true (m || false) ∙ or-false m)
-holds_each f v [] m (suc n) whole = absurd (both_ways (eqb (suc n) 0) (eqb-suc-zero n) whole)
-holds_each f v (x ∷ xs) m zero whole = ap (λ b. m && b) (holds_each f v xs false x whole) ∙ ap (λ b. b && (some f (take x xs) && list_all (some f) (clauses_behind x xs))) (sym (or-false m))
-holds_each f v (x ∷ xs) m (suc n) whole =
-    let less : suc n - 1 ≡ n = omega arith in
-    let behind = (and_parts (ltb x (2 * v)) (inside v (suc n - 1) xs) (sym (cond-false (eqb (suc n) 0) (inside v x xs) (ltb x (2 * v) && inside v (suc n - 1) xs) (eqb-suc-zero n)) ∙ whole)).1 in
-    cond-false (eqb (suc n) 0) (m && holds f false x xs) (holds f (m || f x) (suc n - 1) xs) (eqb-suc-zero n)
-    ∙ ap (λ k. holds f (m || f x) k xs) less
-    ∙ holds_each f v xs (m || f x) n (ap (λ k. inside v k xs) (sym less) ∙ behind)
-    ∙ ap (λ b. b && list_all (some f) (clauses_behind n xs)) (or_assoc m (f x) (some f (take n xs)))
-    ∙ ap (λ l. (m || (f x || some f (take n xs))) && list_all (some f) l) (sym (cond-false (eqb (suc n) 0) (take x xs ∷ clauses_behind x xs) (clauses_behind (suc n - 1) xs) (eqb-suc-zero n) ∙ ap (λ k. clauses_behind k xs) less))
-
--- and its clauses are over the variables that the row is over
-each_named : (v : ℕ) (row : List ℕ) (rest : ℕ) → inside v rest row ≡ true → All (λ c. allotted v c ≡ true) (clauses_behind rest row)
-each_named v [] rest whole = All-nil (λ c. allotted v c ≡ true)
-each_named v (x ∷ xs) zero whole = All-cons (λ c. allotted v c ≡ true) (take x xs) (clauses_behind x xs) (inside_clause v x xs whole).named (each_named v xs x whole)
-each_named v (x ∷ xs) (suc n) whole =
-    let less : suc n - 1 ≡ n = omega arith in
-    let behind = (and_parts (ltb x (2 * v)) (inside v (suc n - 1) xs) (sym (cond-false (eqb (suc n) 0) (inside v x xs) (ltb x (2 * v) && inside v (suc n - 1) xs) (eqb-suc-zero n)) ∙ whole)).1 in
-    subst (All (λ c. allotted v c ≡ true))
-    (sym (cond-false (eqb (suc n) 0) (take x xs ∷ clauses_behind x xs) (clauses_behind (suc n - 1) xs) (eqb-suc-zero n) ∙ ap (λ k. clauses_behind k xs) less))
-    (each_named v xs n (ap (λ k. inside v k xs) (sym less) ∙ behind))
-
 module _ (row out : List ℕ) (whole : inside (length out) 0 row ≡ true) where
   abbrev misses : List ℕ → Bool
   misses c = not (some (lit (written out)) c)
@@ -73,14 +45,14 @@ module _ (row out : List ℕ) (whole : inside (length out) 0 row ≡ true) where
   -- no clause of the row is missed
   none_missed : All (λ c. misses c ≡ false) (clauses_of row) → holds (lit (written out)) true 0 row ≡ true
   none_missed h =
-      holds_each (lit (written out)) (length out) row true 0 whole
+      holds_clauses (lit (written out)) row
       ∙ list_all-from_AllPass (some (lit (written out))) (clauses_of row) (All-weaker (λ c. misses c ≡ false) (λ c. some (lit (written out)) c ≡ true) (λ c e. not-false (some (lit (written out)) c) e) (clauses_of row) h)
 
   one_missed : (c : List ℕ) → Contains (clauses_of row) c → misses c ≡ true → Failing row out c
   one_missed c among e =
       record {
-        known = λ p x. All-contains (λ k. some (lit p) k ≡ true) (clauses_of row) c (AllPass-from_list_all (some (lit p)) (clauses_of row) (sym (holds_each (lit p) (length out) row true 0 whole) ∙ x)) among;
-        named = All-contains (λ k. allotted (length out) k ≡ true) (clauses_of row) c (each_named (length out) row 0 whole) among;
+        known = λ p x. All-contains (λ k. some (lit p) k ≡ true) (clauses_of row) c (AllPass-from_list_all (some (lit p)) (clauses_of row) (sym (holds_clauses (lit p) row) ∙ x)) among;
+        named = All-contains (λ k. allotted (length out) k ≡ true) (clauses_of row) c (AllPass-from_list_all (allotted (length out)) (clauses_of row) (clauses_named (length out) 0 row whole)) among;
         off = not-true (some (lit (written out)) c) e;
       }
 

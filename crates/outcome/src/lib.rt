@@ -22,7 +22,8 @@ pub enum Next {
     No,
 }
 
-// Returns the byte that an answer has for a value.
+// Returns the byte that an answer has for a value: 1 for true, else 0.
+// Kept as it is: an answer is bytes in memory that the caller lends, in the form that the choosers' trait says.
 fn byte(value: Value) -> u8
     ensures { result ≡ byte_of value }
 {
