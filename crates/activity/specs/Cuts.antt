@@ -1,13 +1,10 @@
 -- A trail of which the literals from the place k on were taken back.
-use Rattle.std.specs.Prelude.{◌≡◌, ℕ, ◌/◌, ◌<◌, ◌≤◌, List, slice_index}
-use Rattle.trail.specs.declared.kept.Trail.{Trail}
+use Rattle.std.specs.Prelude.{◌≡◌, ℕ, ◌<◌, ◌≤◌, length, take}
+use Rattle.trail.specs.Trails.{literal_at}
+use Rattle.trail.specs.Values.{Free}
+use Rattle.trail.specs.declared.search.Search.{Search}
 
--- the literal is of an open variable
-abbrev pub Free : List ℕ → ℕ → Type 0
-Free val l = 1 < slice_index val (l / 2)
-
-pub record Kept (t t' : Trail) (k : ℕ) : Type 0 where
-  pub cut : t'.len ≡ k
-  pub lits : t'.lits ≡ t.lits
-  pub marks : t'.marks ≡ t.marks
-  pub freed : (j : ℕ) → k ≤ j → j < t.len → Free t'.val (slice_index t.lits j)
+pub record Kept (s s' : Search) (k : ℕ) : Type 0 where
+  pub steps : s'.trail.steps.items ≡ take k s.trail.steps.items
+  pub facts : s'.facts ≡ s.facts
+  pub freed : (j : ℕ) → k ≤ j → j < length s.trail.steps.items → Free s'.trail.values (literal_at s.trail.steps.items j)

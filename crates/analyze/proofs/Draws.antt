@@ -1,74 +1,85 @@
--- The clause that a walk back over the trail draws: at each place the clause written so far is met, or a literal below that
--- is seen is false.
-use Rattle.std.proofs.Common.{◌≡◌, ℕ, ◌+◌, ◌-◌, ◌/◌, ◌<◌, Bool, true, false, ◌⊎◌, List, length, get_or, set, sym, ap, ◌∙◌, subst, inl, inr, ⊎_elim, arith, get_or-set_other, get_or-set_same}
-use Rattle.std.proofs.lemmas.Bool.{both_ways, cases_eq}
-use Rattle.chooser.specs.Ways.{lit}
-use Rattle.implied.specs.Implied.{Held, Turned}
+-- The clause that a walk back over the trail draws: at each place an allowed way meets the clause written so far, or makes a
+-- seen literal below false.
+use Rattle.std.proofs.Common.{◌≡◌, ℕ, zero, suc, ◌+◌, ◌-◌, ◌/◌, ◌<◌, ◌≤◌, Bool, true, false, ◌||◌, ◌⊎◌, List, [], ◌∷◌, ◌++◌, length, get_or, set, Some, None, Option, sym, refl, ap, ◌∙◌, subst, inl, inr, ⊎_elim, arith, get_or-set_other, get_or-set_same}
+use Rattle.std.proofs.lemmas.Bool.{both_ways, or_cases, or_left, or_right, cases_eq}
+use Rattle.chooser.specs.Ways.{lit, some}
+use Rattle.rows.specs.Lits.{Turned}
 use Rattle.implied.proofs.Literals.{lit_off, lit_on}
-use Rattle.implied.proofs.Pools.{below_more}
-use Rattle.analyze.specs.Analysis.{Wrong, Grows}
+use Rattle.trail.specs.declared.step.Step.{Step}
+use Rattle.trail.specs.Trails.{literal_at}
+use Rattle.analyze.specs.Analysis.{Wrong, Grows, Absorbed}
 
-pub grows_set : (a b : List ℕ) (v : ℕ) → Grows a b → v < length b → Grows a (set b v 1)
+module _ (f : ℕ → Bool) where
+  -- a list of which some literal passes has a place for it
+  pub some_place : (c : List ℕ) → some f c ≡ true → (k : ℕ) × (k < length c) × (f (get_or c k 0) ≡ true)
+  some_place [] e = absurd (both_ways false refl e)
+  some_place (x ∷ xs) e =
+      ⊎_elim (λ on. (zero, omega arith, on)) (λ later. let w = some_place xs later in let h : w.0 < length xs = w.1 in (suc w.0, omega arith, w.2)) (or_cases (f x) (some f xs) e)
+
+  pub some_before : (c : List ℕ) (t : ℕ) → some f c ≡ true → some f (c ++ t ∷ []) ≡ true
+  some_before [] t e = absurd (both_ways false refl e)
+  some_before (x ∷ xs) t e = ⊎_elim (λ a. or_left (f x) (some f (xs ++ t ∷ [])) a) (λ b. or_right (f x) (some f (xs ++ t ∷ [])) (some_before xs t b)) (or_cases (f x) (some f xs) e)
+
+  pub some_last : (c : List ℕ) (t : ℕ) → f t ≡ true → some f (c ++ t ∷ []) ≡ true
+  some_last [] t e = or_left (f t) false e
+  some_last (x ∷ xs) t e = or_right (f x) (some f (xs ++ t ∷ [])) (some_last xs t e)
+
+pub grows_set : (a b : List Bool) (v : ℕ) → Grows a b → v < length b → Grows a (set b v true)
 grows_set a b v g lt u e =
-    ⊎_elim (λ s. subst (λ k. get_or (set b v 1) k 0 ≡ 1) (sym s) (get_or-set_same b v 1 0 lt)) (λ ne. get_or-set_other b v u 1 0 ne ∙ g u e) (cases_eq u v)
+    ⊎_elim (λ s. subst (λ k. get_or (set b v true) k false ≡ true) (sym s) (get_or-set_same b v true false lt)) (λ ne. get_or-set_other b v u true false ne ∙ g u e) (cases_eq u v)
 
-pub wrong_grows : (p : ℕ → Bool) (lits a b : List ℕ) (i : ℕ) → Grows a b → Wrong p lits a i → Wrong p lits b i
-wrong_grows p lits a b i g w = (w.0, w.1, g (get_or lits w.0 0 / 2) w.2, w.3)
+pub wrong_grows : (p : ℕ → Bool) (steps : List Step) (a b : List Bool) (i : ℕ) → Grows a b → Wrong p steps a i → Wrong p steps b i
+wrong_grows p steps a b i g w = (w.0, w.1, g (literal_at steps w.0 / 2) w.2, w.3)
 
--- the first k literals of the clause at s are taken in
-abbrev pub Part : ((ℕ → Bool) → Bool) → List ℕ → List ℕ → ℕ → ℕ → ℕ → List ℕ → ℕ → ℕ → Type 0
-Part X pool lits s l i seen code k = (q : ℕ) → q < k → (p : ℕ → Bool) → X p ≡ true → lit p (get_or pool (s + 1 + q) 0) ≡ true → ((code ≡ 2) × (lit p l ≡ true)) ⊎ Wrong p lits seen i
+-- a literal of a clause that was gone over is false, shows that a seen one is false, or was left out
+abbrev pub Part : (ℕ → Bool) → List Step → List Bool → ℕ → Option ℕ → ℕ → Type 0
+Part p steps seen i but m = (lit p m ≡ false) ⊎ (Wrong p steps seen i ⊎ (Some m ≡ but))
 
-module _ (X : (ℕ → Bool) → Bool) (pool lits : List ℕ) (s l i : ℕ) (a b : List ℕ) (code code' k : ℕ) (old : Part X pool lits s l i a code k) where
-  pub part_same : b ≡ a → code' ≡ 2 → get_or pool (s + 1 + k) 0 ≡ l → Part X pool lits s l i b code' (k + 1)
-  part_same same two is =
-      below_more (λ q. (p : ℕ → Bool) → X p ≡ true → lit p (get_or pool (s + 1 + q) 0) ≡ true → ((code' ≡ 2) × (lit p l ≡ true)) ⊎ Wrong p lits b i) k
-      (λ q lt p x on. ⊎_elim (λ w. inl (two, w.1)) (λ w. inr (subst (λ z. Wrong p lits z i) (sym same) w)) (old q lt p x on))
-      (λ p x on. inl (two, subst (λ m. lit p m ≡ true) is on))
+pub part_grows : (p : ℕ → Bool) (steps : List Step) (a b : List Bool) (i : ℕ) (but : Option ℕ) (m : ℕ) → Grows a b → Part p steps a i but m → Part p steps b i but m
+part_grows p steps a b i but m g h = ⊎_elim (λ off. inl off) (λ z. ⊎_elim (λ w. inr (inl (wrong_grows p steps a b i g w))) (λ out. inr (inr out)) z) h
 
-  pub part_off : b ≡ a → code' ≡ code → ((p : ℕ → Bool) → X p ≡ true → lit p (get_or pool (s + 1 + k) 0) ≡ false) → Part X pool lits s l i b code' (k + 1)
-  part_off same is off =
-      below_more (λ q. (p : ℕ → Bool) → X p ≡ true → lit p (get_or pool (s + 1 + q) 0) ≡ true → ((code' ≡ 2) × (lit p l ≡ true)) ⊎ Wrong p lits b i) k
-      (λ q lt p x on. ⊎_elim (λ w. inl (is ∙ w.0, w.1)) (λ w. inr (subst (λ z. Wrong p lits z i) (sym same) w)) (old q lt p x on))
-      (λ p x on. absurd (both_ways (lit p (get_or pool (s + 1 + k) 0)) (off p x) on))
+-- a literal whose opposite stands below and is seen
+pub part_seen : (p : ℕ → Bool) (steps : List Step) (seen : List Bool) (i : ℕ) (but : Option ℕ) (m : ℕ) → (j : ℕ) × (j < i) × Turned (literal_at steps j) m × (get_or seen (literal_at steps j / 2) false ≡ true) → Part p steps seen i but m
+part_seen p steps seen i but m w =
+    elim (lit p m) as (λ b. lit p m ≡ b → Part p steps seen i but m) [
+      | true ↦ λ on. inr (inl (w.0, w.1, w.3, lit_off p (literal_at steps w.0) m ((sym w.2.0, λ e. w.2.1 (sym e))) on))
+      | false ↦ λ off. inl off
+    ] refl
 
-  pub part_seen : (j : ℕ) → Grows a b → code' ≡ code → j < i → get_or b (get_or lits j 0 / 2) 0 ≡ 1 → Turned (get_or pool (s + 1 + k) 0) (get_or lits j 0) → Part X pool lits s l i b code' (k + 1)
-  part_seen j grows is lt on-b turn =
-      below_more (λ q. (p : ℕ → Bool) → X p ≡ true → lit p (get_or pool (s + 1 + q) 0) ≡ true → ((code' ≡ 2) × (lit p l ≡ true)) ⊎ Wrong p lits b i) k
-      (λ q le p x on. ⊎_elim (λ w. inl (is ∙ w.0, w.1)) (λ w. inr (wrong_grows p lits a b i grows w)) (old q le p x on))
-      (λ p x on. inr (j, lt, on-b, lit_off p (get_or lits j 0) (get_or pool (s + 1 + k) 0) turn on))
+pub absorbed_from : (X : (ℕ → Bool) → Bool) (steps : List Step) (seen : List Bool) (i : ℕ) (but : Option ℕ) (clause : List ℕ) → ((p : ℕ → Bool) → X p ≡ true → some (lit p) clause ≡ true) → ((p : ℕ → Bool) → X p ≡ true → (k : ℕ) → k < length clause → Part p steps seen i but (get_or clause k 0)) → Absorbed X steps seen i but
+absorbed_from X steps seen i None clause met parts = λ p x.
+    let w = some_place (lit p) clause (met p x) in
+    ⊎_elim (λ off. absurd (both_ways (lit p (get_or clause w.0 0)) off w.2)) (λ z. ⊎_elim (λ wrong. wrong) (λ out. let y : ⊥ = cc in absurd y) z) (parts p x w.0 w.1)
+absorbed_from X steps seen i (Some l) clause met parts = λ p x.
+    let w = some_place (lit p) clause (met p x) in
+    ⊎_elim (λ off. absurd (both_ways (lit p (get_or clause w.0 0)) off w.2)) (λ z. ⊎_elim (λ wrong. inl wrong) (λ out. let same : get_or clause w.0 0 ≡ l = cc in inr (subst (λ m. lit p m ≡ true) same w.2)) z) (parts p x w.0 w.1)
 
 -- one place of the trail down
-wrong_less : (p : ℕ → Bool) (lits seen : List ℕ) (i : ℕ) → 0 < i → Wrong p lits seen i → Wrong p lits seen (i - 1) ⊎ ((get_or seen (get_or lits (i - 1) 0 / 2) 0 ≡ 1) × (lit p (get_or lits (i - 1) 0) ≡ false))
-wrong_less p lits seen i pos w =
-    let lt : w.0 < i = w.1 in
+wrong_less : (p : ℕ → Bool) (steps : List Step) (seen : List Bool) (i : ℕ) → Wrong p steps seen (i + 1) → Wrong p steps seen i ⊎ ((get_or seen (literal_at steps i / 2) false ≡ true) × (lit p (literal_at steps i) ≡ false))
+wrong_less p steps seen i w =
+    let lt : w.0 < i + 1 = w.1 in
     ⊎_elim
-    (λ e. inr (subst (λ j. (get_or seen (get_or lits j 0 / 2) 0 ≡ 1) × (lit p (get_or lits j 0) ≡ false)) e (w.2, w.3)))
+    (λ e. inr (subst (λ j. (get_or seen (literal_at steps j / 2) false ≡ true) × (lit p (literal_at steps j) ≡ false)) e (w.2, w.3)))
     (λ ne. inl (w.0, omega arith, w.2, w.3))
-    (cases_eq w.0 (i - 1))
+    (cases_eq w.0 i)
 
-pub held_more : (p : ℕ → Bool) (buf : List ℕ) (m t : ℕ) → Held p buf m → Held p (set buf m t) (m + 1)
-held_more p buf m t h =
-    let less : h.0 < m = h.1 in
-    let ne : h.0 ≡ m → ⊥ = λ e. omega arith in
-    (h.0, omega arith, ap (lit p) (get_or-set_other buf m h.0 t 0 ne) ∙ h.2)
+-- what the walk keeps at the place i
+abbrev pub Walked : (ℕ → Bool) → List Step → List Bool → List ℕ → ℕ → Type 0
+Walked p steps seen clause i = (some (lit p) clause ≡ true) ⊎ Wrong p steps seen i
 
-pub held_last : (p : ℕ → Bool) (buf : List ℕ) (m t : ℕ) → m < length buf → lit p t ≡ true → Held p (set buf m t) (m + 1)
-held_last p buf m t lt on = (m, omega arith, ap (lit p) (get_or-set_same buf m t 0 lt) ∙ on)
+module _ (p : ℕ → Bool) (steps : List Step) (a b : List Bool) (clause : List ℕ) (i : ℕ) (old : Walked p steps a clause (i + 1)) where
+  pub walk_skip : (get_or a (literal_at steps i / 2) false ≡ true → ⊥) → Walked p steps a clause i
+  walk_skip off = ⊎_elim (λ h. inl h) (λ w. ⊎_elim (λ z. inr z) (λ z. absurd (off z.0)) (wrong_less p steps a i w)) old
 
-module _ (p : ℕ → Bool) (lits a b buf : List ℕ) (i m : ℕ) (some : 0 < i) (old : Held p buf m ⊎ Wrong p lits a i) where
-  pub walk_skip : (get_or a (get_or lits (i - 1) 0 / 2) 0 ≡ 1 → ⊥) → Held p buf m ⊎ Wrong p lits a (i - 1)
-  walk_skip off = ⊎_elim (λ h. inl h) (λ w. ⊎_elim (λ z. inr z) (λ z. absurd (off z.0)) (wrong_less p lits a i some w)) old
-
-  pub walk_keep : (t : ℕ) → m < length buf → Grows a b → Turned (get_or lits (i - 1) 0) t → Held p (set buf m t) (m + 1) ⊎ Wrong p lits b (i - 1)
-  walk_keep t lt grows turn =
+  pub walk_keep : (t : ℕ) → Grows a b → Turned (literal_at steps i) t → Walked p steps b (clause ++ t ∷ []) i
+  walk_keep t grows turn =
       ⊎_elim
-      (λ h. inl (held_more p buf m t h))
-      (λ w. ⊎_elim (λ z. inr (wrong_grows p lits a b (i - 1) grows z)) (λ z. inl (held_last p buf m t lt (lit_on p t (get_or lits (i - 1) 0) turn z.1))) (wrong_less p lits a i some w))
+      (λ h. inl (some_before (lit p) clause t h))
+      (λ w. ⊎_elim (λ z. inr (wrong_grows p steps a b i grows z)) (λ z. inl (some_last (lit p) clause t (lit_on p t (literal_at steps i) turn z.1))) (wrong_less p steps a i w))
       old
 
-  pub walk_take : (code : ℕ) → Grows a b → ((code ≡ 2) × (lit p (get_or lits (i - 1) 0) ≡ true)) ⊎ Wrong p lits b (i - 1) → Held p buf m ⊎ Wrong p lits b (i - 1)
-  walk_take code grows new =
+  pub walk_take : Grows a b → Wrong p steps b i ⊎ (lit p (literal_at steps i) ≡ true) → Walked p steps b clause i
+  walk_take grows new =
       ⊎_elim (λ h. inl h)
-      (λ w. ⊎_elim (λ z. inr (wrong_grows p lits a b (i - 1) grows z)) (λ z. ⊎_elim (λ y. absurd (both_ways (lit p (get_or lits (i - 1) 0)) z.1 y.1)) (λ y. inr y) new) (wrong_less p lits a i some w))
+      (λ w. ⊎_elim (λ z. inr (wrong_grows p steps a b i grows z)) (λ z. ⊎_elim (λ y. inr y) (λ y. absurd (both_ways (lit p (literal_at steps i)) z.1 y)) new) (wrong_less p steps a i w))
       old

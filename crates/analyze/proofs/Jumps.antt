@@ -1,83 +1,124 @@
 -- Where a drawn clause lets the search jump back to, and the clause of the decisions: going down a dead trail, a literal that
 -- follows is true, so that one of the decisions is false.
-use Rattle.std.proofs.Common.{◌≡◌, ℕ, ◌+◌, ◌-◌, ◌<◌, ◌≤◌, Bool, true, List, length, get_or, set, sym, ap, ◌∙◌, subst, ⊎_elim, arith, get_or-set_other, get_or-set_same}
+use Rattle.std.proofs.Common.{◌≡◌, ℕ, zero, suc, ◌+◌, ◌-◌, ◌<◌, ◌≤◌, Bool, true, false, ◌⊎◌, List, [], ◌∷◌, ◌++◌, length, get_or, Some, None, Option, sym, refl, ap, ◌∙◌, subst, ⊎_elim, arith, length-append}
 use Rattle.std.proofs.lemmas.Bool.{both_ways, cases_eq, cases_Bool}
-use Rattle.chooser.specs.Ways.{lit}
-use Rattle.implied.specs.Implied.{Held, Turned}
+use Rattle.std.specs.Option.{option_or}
+use Rattle.std.proofs.lemmas.List.{get_or_append_left}
+use Rattle.chooser.specs.Ways.{lit, some}
+use Rattle.rows.specs.Lits.{Turned}
 use Rattle.implied.proofs.Literals.{lit_off, lit_on}
-use Rattle.trail.specs.Trails.{Along, Follows, Sound}
-use Rattle.analyze.specs.Analysis.{Opposed, Place, Jump}
-use Rattle.analyze.proofs.Draws.{held_more, held_last}
+use Rattle.trail.specs.declared.step.Value.{Value}
+use Rattle.trail.specs.declared.step.Reason.TheVariants.{Decision}
+use Rattle.trail.specs.declared.step.Step.{Step}
+use Rattle.trail.specs.Trails.{step_at, literal_at, Along, Follows, Sound}
+use Rattle.analyze.specs.Analysis.{Drawn, Opposed, Place, Jump}
+use Rattle.analyze.proofs.Draws.{some_place, some_before, some_last}
 
-pub along_more : (p : ℕ → Bool) (lits : List ℕ) (i : ℕ) → 0 < i → Along p lits (i - 1) → lit p (get_or lits (i - 1) 0) ≡ true → Along p lits i
-along_more p lits i some h on j lt = ⊎_elim (λ e. subst (λ k. lit p (get_or lits k 0) ≡ true) (sym e) on) (λ ne. h j (omega arith)) (cases_eq j (i - 1))
+along_more : (p : ℕ → Bool) (steps : List Step) (i : ℕ) → Along p steps i → lit p (literal_at steps i) ≡ true → Along p steps (i + 1)
+along_more p steps i h on j lt = ⊎_elim (λ e. subst (λ k. lit p (literal_at steps k) ≡ true) (sym e) on) (λ ne. h j (omega arith)) (cases_eq j i)
 
-module _ (X : (ℕ → Bool) → Bool) (lits marks : List ℕ) (d : ℕ) (buf : List ℕ) (m k : ℕ) where
-  -- a clause of which all but the first literal are false along the first k
-  asserted : ((p : ℕ → Bool) → X p ≡ true → Held p buf m) → Opposed lits d buf m k → Follows X lits k (get_or buf 0 0)
-  asserted held o p x along =
-      let w = held p x in
-      let lt : w.0 < m = w.1 in
-      ⊎_elim
-      (λ e. subst (λ q. lit p (get_or buf q 0) ≡ true) e w.2)
-      (λ ne. let q = o.others w.0 lt (omega arith) in absurd (both_ways (lit p (get_or buf w.0 0)) (lit_off p (get_or buf w.0 0) (get_or lits q.0 0) q.2 (along q.0 q.1)) w.2))
-      (cases_eq w.0 0)
+-- the first literal and the others, taken apart
+opposed_rest : (steps : List Step) (k : ℕ) (x : ℕ) (rest : List ℕ) → ((q : ℕ) → q < length rest → (j : ℕ) × (j < k) × Turned (literal_at steps j) (get_or rest q 0)) → (q : ℕ) → q < length (x ∷ rest) → 0 < q → (j : ℕ) × (j < k) × Turned (literal_at steps j) (get_or (x ∷ rest) q 0)
+opposed_rest steps k x rest h zero lt pos = let z : ⊥ = omega arith in absurd z
+opposed_rest steps k x rest h (suc q) lt pos = h q (omega arith)
 
-  pub jump_back : m ≤ length buf → ((p : ℕ → Bool) → X p ≡ true → Held p buf m) → k < d → get_or marks k 0 ≡ 1 → Opposed lits d buf m k → Jump X lits marks d buf m k
-  jump_back short held lt one o = record { short = short; held = held; place = λ some. record { before = lt; decision = one; follows = asserted held o; first = o.first } }
+pub opposed_from : (steps : List Step) (clause rest : List ℕ) (x k j : ℕ) → clause ≡ x ∷ rest → k ≤ j → j < length steps → Turned (literal_at steps j) x → ((q : ℕ) → q < length rest → (i : ℕ) × (i < k) × Turned (literal_at steps i) (get_or rest q 0)) → Opposed steps clause k
+opposed_from steps clause rest x k j e le lt turn h =
+    subst (λ c. Opposed steps c k) (sym e) (record { some = omega arith; first = (j, le, lt, turn); others = opposed_rest steps k x rest h })
+
+-- a clause of which all but the first literal are false along the first k
+pub asserted : (X : (ℕ → Bool) → Bool) (steps : List Step) (clause : List ℕ) (k : ℕ) → Drawn X clause → Opposed steps clause k → Follows X steps k (get_or clause 0 0)
+asserted X steps clause k drawn o p x along =
+    let w = some_place (lit p) clause (drawn p x) in
+    ⊎_elim
+    (λ e. subst (λ q. lit p (get_or clause q 0) ≡ true) e w.2)
+    (λ ne. let pos : 0 < w.0 = omega arith in let q = o.others w.0 w.1 pos in absurd (both_ways (lit p (get_or clause w.0 0)) (lit_off p (get_or clause w.0 0) (literal_at steps q.0) q.2 (along q.0 q.1)) w.2))
+    (cases_eq w.0 0)
 
 -- an allowed way along the first i literals meets the clause of the decisions from i on
-abbrev pub Deciding : ((ℕ → Bool) → Bool) → List ℕ → List ℕ → ℕ → ℕ → List ℕ → ℕ → ℕ → Type 0
-Deciding X lits marks d i buf m k = ((p : ℕ → Bool) → X p ≡ true → Along p lits i → Held p buf m) × (m + i ≤ d) × (0 < m → Place X lits marks d buf k)
+pub record Deciding (X : (ℕ → Bool) → Bool) (steps : List Step) (i : ℕ) (clause : List ℕ) (last : Option ℕ) : Type 0 where
+  pub held : (p : ℕ → Bool) → X p ≡ true → Along p steps i → some (lit p) clause ≡ true
+  pub short : length clause + i ≤ length steps
+  pub none : last ≡ None → clause ≡ []
+  pub place : (k : ℕ) → last ≡ Some k → Place X steps clause k
 
-module _ (X : (ℕ → Bool) → Bool) (val lits marks : List ℕ) (d : ℕ) (s : Sound X val lits marks d) (i : ℕ) (buf : List ℕ) (m k : ℕ) (some : 0 < i) (old : Deciding X lits marks d i buf m k) where
-  pub decide_skip : (get_or marks (i - 1) 0 ≡ 1 → ⊥) → Deciding X lits marks d (i - 1) buf m k
+module _ (X : (ℕ → Bool) → Bool) (values : List Value) (positions : List ℕ) (steps : List Step) (s : Sound X values positions steps) (i : ℕ) (clause : List ℕ) (last : Option ℕ) (old : Deciding X steps (i + 1) clause last) where
+  pub decide_skip : ((step_at steps i).reason ≡ Decision → ⊥) → Deciding X steps i clause last
   decide_skip no-decision =
-      let le : m + i ≤ d = old.1 in
-      (λ p x along. old.0 p x (along_more p lits i some along (s.grounded (i - 1) (omega arith) no-decision p x along)), omega arith, old.2)
+      let le = old.short in
+      record {
+        held = λ p x along. old.held p x (along_more p steps i along (s.grounded i (omega arith) no-decision p x along));
+        short = omega arith;
+        none = old.none;
+        place = old.place;
+      }
 
-  module _ (t : ℕ) (turn : Turned (get_or lits (i - 1) 0) t) (lt : m < length buf) (one : get_or marks (i - 1) 0 ≡ 1) where
-    decide_held : (p : ℕ → Bool) → X p ≡ true → Along p lits (i - 1) → Held p (set buf m t) (m + 1)
+  module _ (t : ℕ) (turn : Turned (literal_at steps i) t) (one : (step_at steps i).reason ≡ Decision) where
+    decide_held : (p : ℕ → Bool) → X p ≡ true → Along p steps i → some (lit p) (clause ++ t ∷ []) ≡ true
     decide_held p x along =
         ⊎_elim
-        (λ on. held_more p buf m t (old.0 p x (along_more p lits i some along on)))
-        (λ off. held_last p buf m t lt (lit_on p t (get_or lits (i - 1) 0) turn off))
-        (cases_Bool (lit p (get_or lits (i - 1) 0)))
+        (λ on. some_before (lit p) clause t (old.held p x (along_more p steps i along on)))
+        (λ off. some_last (lit p) clause t (lit_on p t (literal_at steps i) turn off))
+        (cases_Bool (lit p (literal_at steps i)))
 
-    pub decide_last : (k' : ℕ) → m ≡ 0 → k' ≡ i - 1 → Deciding X lits marks d (i - 1) (set buf m t) (m + 1) k'
-    decide_last k' none is =
-        let le : m + i ≤ d = old.1 in
-        let first : get_or (set buf m t) 0 0 ≡ t = ap (λ q. get_or (set buf m t) q 0) (sym none) ∙ get_or-set_same buf m t 0 lt in (
-          decide_held,
-          omega arith,
-          λ more. record {
+    long : length (clause ++ t ∷ []) ≡ length clause + 1
+    long = length-append clause (t ∷ [])
+
+    -- the last decision: the clause was empty
+    decide_last : last ≡ None → Deciding X steps i (clause ++ t ∷ []) (Some i)
+    decide_last none =
+        let le = old.short in
+        let size = long in
+        let empty : clause ≡ [] = old.none none in
+        let first : get_or (clause ++ t ∷ []) 0 0 ≡ t = ap (λ z. get_or (z ++ t ∷ []) 0 0) empty in
+        record {
+          held = decide_held;
+          short = omega arith;
+          none = λ e. let z : ⊥ = cc in absurd z;
+          place = λ k e. let same : i ≡ k = cc in subst (Place X steps (clause ++ t ∷ [])) same (record {
+            some = omega arith;
             before = omega arith;
-            decision = ap (λ q. get_or marks q 0) is ∙ one;
-            follows = λ p x along.
-                let below : Along p lits (i - 1) = subst (Along p lits) is along in
-                ap (lit p) first ∙ ⊎_elim
-                (λ on. let w = old.0 p x (along_more p lits i some below on) in let in-m : w.0 < m = w.1 in let z : ⊥ = omega arith in absurd z)
-                (λ off. lit_on p t (get_or lits (i - 1) 0) turn off)
-                (cases_Bool (lit p (get_or lits (i - 1) 0)));
-            first = (i - 1, omega arith, omega arith, subst (Turned (get_or lits (i - 1) 0)) (sym first) turn);
-          },
-        )
+            decision = one;
+            follows = λ p x along. ap (lit p) first
+                ∙ ⊎_elim
+                (λ on. let met : some (lit p) [] ≡ true = sym (ap (some (lit p)) empty) ∙ old.held p x (along_more p steps i along on) in absurd (both_ways false refl met))
+                (λ off. lit_on p t (literal_at steps i) turn off)
+                (cases_Bool (lit p (literal_at steps i)));
+            first = (i, omega arith, omega arith, subst (Turned (literal_at steps i)) (sym first) turn);
+          });
+        }
 
-    pub decide_more : (k' : ℕ) → 0 < m → k' ≡ k → Deciding X lits marks d (i - 1) (set buf m t) (m + 1) k'
-    decide_more k' more is =
-        let le : m + i ≤ d = old.1 in
-        let o = old.2 more in
-        let ne : 0 ≡ m → ⊥ = λ e. omega arith in
-        let first : get_or (set buf m t) 0 0 ≡ get_or buf 0 0 = get_or-set_other buf m 0 t 0 ne in
-        let at-k : Place X lits marks d (set buf m t) k = record {
-          before = o.before;
-          decision = o.decision;
-          follows = λ p x along. ap (lit p) first ∙ o.follows p x along;
-          first = (o.first.0, o.first.1, o.first.2, subst (Turned (get_or lits o.first.0 0)) (sym first) o.first.3);
-        } in
-        (decide_held, omega arith, λ _. subst (Place X lits marks d (set buf m t)) (sym is) at-k)
+    decide_more : (k : ℕ) → last ≡ Some k → Deciding X steps i (clause ++ t ∷ []) last
+    decide_more k more =
+        let le = old.short in
+        let size = long in
+        record {
+          held = decide_held;
+          short = omega arith;
+          none = λ e. let z : ⊥ = cc in absurd z;
+          place = λ q e.
+              let o = old.place q e in
+              let some = o.some in
+              let first : get_or (clause ++ t ∷ []) 0 0 ≡ get_or clause 0 0 = get_or_append_left clause (t ∷ []) 0 0 some in
+              record {
+                some = omega arith;
+                before = o.before;
+                decision = o.decision;
+                follows = λ p x along. ap (lit p) first ∙ o.follows p x along;
+                first = (o.first.0, o.first.1, o.first.2, subst (Turned (literal_at steps o.first.0)) (sym first) o.first.3);
+              };
+        }
 
-pub decided : (X : (ℕ → Bool) → Bool) (lits marks : List ℕ) (d i : ℕ) (buf : List ℕ) (m k : ℕ) → i ≡ 0 → d ≤ length buf → Deciding X lits marks d i buf m k → Jump X lits marks d buf m k
-decided X lits marks d i buf m k none le o =
-    let lt : m + i ≤ d = o.1 in
-    record { short = omega arith; held = λ p x. o.0 p x (λ j less. let z : ⊥ = omega arith in absurd z); place = o.2 }
+    -- one decision more
+    pub decide_or : Deciding X steps i (clause ++ t ∷ []) (option_or last (Some i))
+    decide_or =
+        elim last as (λ o. last ≡ o → Deciding X steps i (clause ++ t ∷ []) (option_or o (Some i))) [
+          | None ↦ decide_last
+          | Some k ↦ λ e. subst (Deciding X steps i (clause ++ t ∷ [])) e (decide_more k e)
+        ] refl
+
+pub decided : (X : (ℕ → Bool) → Bool) (steps : List Step) (i : ℕ) (clause : List ℕ) (last : Option ℕ) → i ≡ 0 → Deciding X steps i clause last → Jump X steps clause last
+decided X steps i clause None start o = λ p x.
+    let met : some (lit p) [] ≡ true = sym (ap (some (lit p)) (o.none refl)) ∙ o.held p x (λ j less. let z : ⊥ = omega arith in absurd z) in
+    both_ways false refl met
+decided X steps i clause (Some k) start o = (λ p x. o.held p x (λ j less. let z : ⊥ = omega arith in absurd z), o.place k refl)

@@ -3,21 +3,28 @@ ghost use Rattle.std.specs.Prelude.{◌≡◌};
 ghost use Rattle.answers.specs.Words.{word};
 
 use crate::answer::Outcome;
+use std::fmt;
 
 impl Outcome {
     // The word by which the outcome is printed.
-    pub fn word(self) -> &'static [u8]
+    pub fn word(self) -> &'static str
         ensures { result.now ≡ word self }
     {
         match self {
-            Outcome::Model => b"MODEL",
-            Outcome::None => b"NONE",
-            Outcome::Never => b"NEVER",
-            Outcome::Foreign => b"FOREIGN",
-            Outcome::SpentRounds => b"SPENT ROUNDS",
-            Outcome::SpentSteps(_) => b"SPENT STEPS",
-            Outcome::SpentUnknowns => b"SPENT UNKNOWNS",
-            Outcome::SpentChooser => b"SPENT CHOOSER",
+            Outcome::Model => "MODEL",
+            Outcome::None => "NONE",
+            Outcome::Never => "NEVER",
+            Outcome::Foreign => "FOREIGN",
+            Outcome::SpentRounds => "SPENT ROUNDS",
+            Outcome::SpentSteps(_) => "SPENT STEPS",
+            Outcome::SpentUnknowns => "SPENT UNKNOWNS",
+            Outcome::SpentChooser => "SPENT CHOOSER",
         }
+    }
+}
+
+impl fmt::Display for Outcome {
+    fn fmt<W: fmt::Write>(&self, f: &mut fmt::Formatter<W>) -> fmt::Result {
+        f.write_str(self.word())
     }
 }

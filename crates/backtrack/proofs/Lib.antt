@@ -1,6 +1,6 @@
 pub mod Values
 pub mod Looks
-pub mod Rest
 pub mod Trails
+pub mod Backs
 pub mod Passes
 pub mod Turns

@@ -1,28 +1,37 @@
--- One literal more of a clause that is looked at, and what the whole clause then tells.
-use Rattle.std.proofs.Common.{◌≡◌, ℕ, ◌+◌, ◌≤◌, Bool, true, false, ◌⊎◌, List, length, get_or, Some, None, Option, refl, inl, inr, ⊎_elim, arith, below_more}
-use Rattle.std.proofs.lemmas.Bool.{both_ways}
-use Rattle.chooser.specs.Ways.{lit, some}
-use Rattle.rows.proofs.Lits.{some_none, some_only}
-use Rattle.backtrack.specs.Values.{Agrees, Opened, Off}
-use Rattle.backtrack.specs.Told.{Looked}
+-- One literal more of a clause that is looked at.
+use Rattle.std.proofs.Common.{◌≡◌, ℕ, Bool, true, false, ◌||◌, List, [], ◌∷◌, ◌++◌, sym, ap, ◌∙◌, ⊎_elim}
+use mathlib.Core.Bool.{or-false}
+use Rattle.std.proofs.lemmas.Bool.{both_ways, or_cases, or_left}
+use Rattle.chooser.specs.Ways.{lit, some, written}
+use Rattle.rows.proofs.Lits.{some_append}
+use Rattle.backtrack.specs.Values.{Opened, Off}
+use Rattle.backtrack.specs.Told.{Told}
+use Rattle.backtrack.specs.declared.clause.Status.{Status}
+use Rattle.backtrack.specs.declared.clause.Status.TheVariants.{Clash, Forced, Open, Met}
 
-module _ (values clause : List ℕ) (i : ℕ) where
-  -- the first open literal
-  pub looked_first : (many : Bool) → Opened values (get_or clause i 0) → Looked values clause i many None → Looked values clause (i + 1) many (Some (get_or clause i 0))
-  looked_first many h old = (h, λ e. below_more (λ k. Off values (get_or clause k 0) ⊎ (get_or clause k 0 ≡ get_or clause i 0)) i (λ k lt. inl (old k lt)) (inr refl))
+module _ (values before : List ℕ) (l : ℕ) where
+  one_more : (f : ℕ → Bool) → some f (before ++ (l ∷ [])) ≡ (some f before || f l)
+  one_more f = some_append f before (l ∷ []) ∙ ap (λ b. some f before || b) (or-false (f l))
 
-  -- a second one
-  pub looked_many : (l : ℕ) (many : Bool) → Looked values clause i many (Some l) → Looked values clause (i + 1) true (Some l)
-  looked_many l many old = (old.0, λ e. absurd (both_ways true e refl))
+  last_on : (f : ℕ → Bool) → some f before ≡ false → some f (before ++ (l ∷ [])) ≡ true → f l ≡ true
+  last_on f off e = ⊎_elim (λ a. absurd (both_ways (some f before) off a)) (λ b. b) (or_cases (some f before) (f l) (sym (one_more f) ∙ e))
+
+  first_on : (f : ℕ → Bool) → f l ≡ false → some f (before ++ (l ∷ [])) ≡ true → some f before ≡ true
+  first_on f off e = ⊎_elim (λ a. a) (λ b. absurd (both_ways (f l) off b)) (or_cases (some f before) (f l) (sym (one_more f) ∙ e))
+
+  still_met : (f : ℕ → Bool) → some f before ≡ true → some f (before ++ (l ∷ [])) ≡ true
+  still_met f e = one_more f ∙ or_left (some f before) (f l) e
 
   -- a literal that is false
-  pub looked_off : (many : Bool) (open-literal : Option ℕ) → Off values (get_or clause i 0) → Looked values clause i many open-literal → Looked values clause (i + 1) many open-literal
-  looked_off many None h old = below_more (λ k. Off values (get_or clause k 0)) i old h
-  looked_off many (Some l) h old = (old.0, λ e. below_more (λ k. Off values (get_or clause k 0) ⊎ (get_or clause k 0 ≡ l)) i (old.1 e) (inl h))
+  pub told_off : (s : Status) → Off values l → Told values before s → Told values (before ++ (l ∷ [])) s
+  told_off Clash off h = λ p agree. one_more (lit p) ∙ ap (λ b. b || lit p l) (h p agree) ∙ off p agree
+  told_off (Forced k) off h = (h.0, λ p agree e. h.1 p agree (first_on (lit p) (off p agree) e))
+  told_off (Open k) off h = h
+  told_off Met off h = still_met (lit (written values)) h
 
-module _ (values clause : List ℕ) (i : ℕ) (all : length clause ≤ i) where
-  pub told_clash : (many : Bool) → Looked values clause i many None → (p : ℕ → Bool) → Agrees p values → some (lit p) clause ≡ false
-  told_clash many h p agree = some_none (lit p) clause (λ k lt. h k (omega arith) p agree)
+  -- the first open literal, and a second one
+  pub told_first : Opened values l → Told values before Clash → Told values (before ++ (l ∷ [])) (Forced l)
+  told_first open-literal h = (open-literal, λ p agree e. last_on (lit p) (h p agree) e)
 
-  pub told_forced : (l : ℕ) → Looked values clause i false (Some l) → (p : ℕ → Bool) → Agrees p values → some (lit p) clause ≡ true → lit p l ≡ true
-  told_forced l h p agree = some_only (lit p) l clause (λ k lt. ⊎_elim (λ off. inl (off p agree)) (λ is. inr is) (h.1 refl k (omega arith)))
+  pub told_met : Told values before Met → Told values (before ++ (l ∷ [])) Met
+  told_met h = still_met (lit (written values)) h

@@ -1,82 +1,103 @@
--- One clause more of a pass over the assumptions and clauses, and how the pass ends.
-use Rattle.std.proofs.Common.{◌≡◌, ℕ, ◌+◌, ◌/◌, ◌≤◌, Bool, true, false, ◌&&◌, List, length, set, Some, None, Option, sym, refl, ap, ◌∙◌, subst, inr, arith, length-set}
-use Rattle.std.proofs.lemmas.Bool.{and_parts}
+-- One clause more of a pass, and how the pass ends.
+use Rattle.std.proofs.Common.{◌≡◌, ℕ, ◌/◌, ◌<◌, ◌≤◌, Bool, true, false, ◌&&◌, List, [], ◌∷◌, ◌++◌, length, set, Ok, Err, Result, Some, None, Option, sym, refl, ap, ◌∙◌, subst, arith, append_assoc, length-append}
+use mathlib.Core.Bool.{and_comm, or-false}
+use Rattle.std.proofs.lemmas.Bool.{and_parts, both_ways}
+use Rattle.std.proofs.lemmas.List.{append-nil}
+use Rattle.std.proofs.lemmas.List.Folds.{list_all-append}
+use Rattle.std.specs.List.{list_all}
 use Rattle.std.specs.Option.{option_or}
-use Rattle.chooser.specs.Ways.{lit, some, written}
-use Rattle.weight.proofs.Marks.{push_rises}
+use Rattle.std.specs.Result.{IsErr}
+use Rattle.chooser.specs.Ways.{lit, some, every, written}
+use Rattle.rows.specs.Rows.{holds, clauses_of}
+use Rattle.rows.proofs.Clauses.{holds_clauses}
 use Rattle.backtrack.specs.Values.{Agrees, Opened, bit}
-use Rattle.backtrack.specs.Trail.{Trail, Dead}
+use Rattle.backtrack.specs.Trail.{Trail}
 use Rattle.backtrack.specs.Solved.{allowed}
-use Rattle.backtrack.specs.Rest.{rest, Next}
-use Rattle.backtrack.specs.Swept.{Calm, Passing, Swept, Ended}
-use Rattle.backtrack.specs.declared.End.{End}
-use Rattle.backtrack.proofs.Trails.{room, trail_push, dead_clash, follows_clause}
-use Rattle.backtrack.proofs.Rest.{rest_start, rest_end}
+use Rattle.backtrack.specs.Swept.{met, singles, Calm, Passing, Clashed, Swept}
+use Rattle.backtrack.specs.declared.Clash.{Clash}
+use Rattle.backtrack.specs.declared.Pass.{Pass}
+use Rattle.backtrack.specs.declared.trail.Step.{Step}
+use Rattle.backtrack.specs.declared.trail.Step.TheVariants.{Follows}
+use Rattle.backtrack.proofs.Trails.{trail_push, dead_clash, leads_clause}
 
-pub pass_start : (row assumptions : List ℕ) (from : ℕ) (values trail marks : List ℕ) → Trail (allowed row assumptions) values trail marks from → Passing row assumptions 0 marks from values trail marks from None
-pass_start row assumptions from values trail marks t =
-    record { goes = t; later = omega arith; rises = omega arith; owed = λ p x. sym (rest_start row assumptions p) ∙ x; calm = λ e. rest_start row assumptions (written values) }
+singles_met : (f : ℕ → Bool) (ls : List ℕ) → list_all (some f) (singles ls) ≡ every f ls
+singles_met f [] = refl
+singles_met f (l ∷ ls) = ap (λ b. b && list_all (some f) (singles ls)) (or-false (f l)) ∙ ap (λ b. f l && b) (singles_met f ls)
 
-module _ (row assumptions : List ℕ) (at : ℕ) (old : List ℕ) (from : ℕ) (values trail marks : List ℕ) (d : ℕ) (open-literal : Option ℕ)
-    (now : Passing row assumptions at old from values trail marks d open-literal) where
-  pub pass_ends : (end : End) → Ended (allowed row assumptions) values trail from d end → Swept (allowed row assumptions) old from values trail marks d end
-  pass_ends end h = record { goes = now.goes; later = now.later; rises = now.rises; ends = h }
+-- what is allowed, as the clauses that a pass goes over
+pub allowed_clauses : (row assumptions : List ℕ) (p : ℕ → Bool) → allowed row assumptions p ≡ met (singles assumptions ++ clauses_of row) p
+allowed_clauses row assumptions p =
+    let f = lit p in
+    and_comm (holds f true 0 row) (every f assumptions)
+    ∙ ap (λ b. every f assumptions && b) (holds_clauses f row)
+    ∙ ap (λ b. b && list_all (some f) (clauses_of row)) (sym (singles_met f assumptions))
+    ∙ sym (list_all-append (some f) (singles assumptions) (clauses_of row))
 
-  module _ (v : ℕ) (clause : List ℕ) (next : ℕ) (step : Next v row assumptions at clause next) where
-    parts : (p : ℕ → Bool) → allowed row assumptions p ≡ true → (some (lit p) clause ≡ true) × (rest row assumptions next (lit p) ≡ true)
-    parts p x = and_parts (some (lit p) clause) (rest row assumptions next (lit p)) (sym (step.splits (lit p)) ∙ now.owed p x)
+pub or_none : (o : Option ℕ) → o ≡ option_or o None
+or_none None = refl
+or_none (Some l) = refl
 
-    pub pass_clash : ((p : ℕ → Bool) → Agrees p values → some (lit p) clause ≡ false) → Dead (allowed row assumptions) trail d
-    pass_clash clash = dead_clash (allowed row assumptions) values trail marks d now.goes clause (λ p x. (parts p x).0) clash
+module _ (X : (ℕ → Bool) → Bool) where
+  pub pass_start : (clauses : List (List ℕ)) (values : List ℕ) (start : List Step) → ((p : ℕ → Bool) → X p ≡ met clauses p) → Trail X values start → Passing X clauses start values start None
+  pass_start clauses values start same t =
+      record { goes = t; more = []; grown = sym (append-nil start); owed = λ p x. sym (same p) ∙ x; calm = λ e. same (written values) }
 
-    pub pass_met : some (lit (written values)) clause ≡ true → Passing row assumptions next old from values trail marks d open-literal
-    pass_met met =
-        record {
-          goes = now.goes;
-          later = now.later;
-          rises = now.rises;
-          owed = λ p x. (parts p x).1;
-          calm = λ e. calm_met open-literal (now.calm e);
-        }
+  module _ (clause : List ℕ) (left : List (List ℕ)) (start : List Step) (values : List ℕ) (steps : List Step) (o : Option ℕ)
+      (now : Passing X (clause ∷ left) start values steps o) where
+    parts : (p : ℕ → Bool) → X p ≡ true → (some (lit p) clause ≡ true) × (met left p ≡ true)
+    parts p x = and_parts (some (lit p) clause) (met left p) (now.owed p x)
+
+    pub pass_clash : ((p : ℕ → Bool) → Agrees p values → some (lit p) clause ≡ false) → Clashed X start values steps
+    pass_clash clash =
+        record { goes = now.goes; more = now.more; grown = now.grown; dead = dead_clash X values steps now.goes clause (λ p x. (parts p x).0) clash }
+
+    pub pass_met : some (lit (written values)) clause ≡ true → Passing X left start values steps (option_or o None)
+    pass_met on =
+        subst (Passing X left start values steps) (or_none o)
+        record { goes = now.goes; more = now.more; grown = now.grown; owed = λ p x. (parts p x).1; calm = λ e. calm_met o (now.calm e) }
       where
-        calm_met : (o : Option ℕ) → Calm row assumptions at values o → Calm row assumptions next values o
-        calm_met None h = h ∙ step.splits (lit (written values)) ∙ ap (λ b. b && rest row assumptions next (lit (written values))) met
+        calm_met : (q : Option ℕ) → Calm X (clause ∷ left) values q → Calm X left values q
+        calm_met None h = h ∙ ap (λ b. b && met left (written values)) on
         calm_met (Some l) h = h
 
-    pub pass_open : (l : ℕ) → Opened values l → Passing row assumptions next old from values trail marks d (option_or open-literal (Some l))
+    pub pass_open : (l : ℕ) → Opened values l → Passing X left start values steps (option_or o (Some l))
     pass_open l h =
-        record {
-          goes = now.goes;
-          later = now.later;
-          rises = now.rises;
-          owed = λ p x. (parts p x).1;
-          calm = λ e. calm_open open-literal (now.calm e);
-        }
+        record { goes = now.goes; more = now.more; grown = now.grown; owed = λ p x. (parts p x).1; calm = λ e. calm_open o (now.calm e) }
       where
-        calm_open : (o : Option ℕ) → Calm row assumptions at values o → Calm row assumptions next values (option_or o (Some l))
+        calm_open : (q : Option ℕ) → Calm X (clause ∷ left) values q → Calm X left values (option_or q (Some l))
         calm_open None was = h
         calm_open (Some k) was = was
 
     pub pass_push : (l : ℕ) → Opened values l → ((p : ℕ → Bool) → Agrees p values → some (lit p) clause ≡ true → lit p l ≡ true)
-        → Passing row assumptions next old from (set values (l / 2) (bit l)) (set trail d l) (set marks d 2) (d + 1) open-literal
+        → Passing X left start (set values (l / 2) (bit l)) (steps ++ (Follows l ∷ [])) (option_or o None)
     pass_push l h forced =
-        let X = allowed row assumptions in
-        let t = now.goes in
-        let a = now.later in
-        let size = length-set values (l / 2) (bit l) in
-        let up = push_rises marks (length values) d t.marks_long t.good 2 (room X values trail marks d t l h) (omega arith) in
+        subst (Passing X left start (set values (l / 2) (bit l)) (steps ++ (Follows l ∷ []))) (or_none o)
         record {
-          goes = trail_push X values trail marks d t l 2 h (inr (refl, follows_clause X values trail marks d t clause l (λ p x. (parts p x).0) forced));
-          later = omega arith;
-          rises = let r = now.rises in rw size (omega arith);
+          goes = trail_push X values steps now.goes (Follows l) h (leads_clause X values steps now.goes clause l (λ p x. (parts p x).0) forced);
+          more = now.more ++ (Follows l ∷ []);
+          grown = ap (λ z. z ++ (Follows l ∷ [])) now.grown ∙ append_assoc start now.more (Follows l ∷ []);
           owed = λ p x. (parts p x).1;
-          calm = λ e. let z : ⊥ = omega arith in absurd z;
+          calm = λ e. let z : ⊥ = omega (arith, ap length e, length-append now.more (Follows l ∷ [])) in absurd z;
         }
 
-  -- nothing is left to be looked at
-  module _ (all : length assumptions + length row ≤ at) where
-    pub pass_all_met : d ≡ from → open-literal ≡ None → allowed row assumptions (written values) ≡ true
-    pass_all_met e none = subst (Calm row assumptions at values) none (now.calm e) ∙ rest_end row assumptions at (lit (written values)) all
+  -- no clause is left
+  module _ (start : List Step) (values : List ℕ) (steps : List Step) (o : Option ℕ) (now : Passing X [] start values steps o) where
+    nothing : (xs : List Step) → length xs ≤ 0 → xs ≡ []
+    nothing [] le = refl
+    nothing (x ∷ xs) le = let z : ⊥ = omega arith in absurd z
 
-    pub pass_all_open : (l : ℕ) → d ≡ from → open-literal ≡ Some l → Opened values l
-    pass_all_open l e is = subst (Calm row assumptions at values) is (now.calm e)
+    pub pass_moved : length start < length steps → now.more ≡ [] → ⊥
+    pass_moved lt e = omega (arith, ap length now.grown, length-append start now.more, ap length e)
+
+    still : length steps ≤ length start → now.more ≡ []
+    still le = nothing now.more (omega (arith, ap length now.grown, length-append start now.more))
+
+    pub pass_left : (l : ℕ) → length steps ≤ length start → o ≡ Some l → Opened values l
+    pass_left l le is = subst (Calm X [] values) is (now.calm (still le))
+
+    pub pass_all_met : length steps ≤ length start → o ≡ None → X (written values) ≡ true
+    pass_all_met le none = subst (Calm X [] values) none (now.calm (still le))
+
+pub swept_err : (X : (ℕ → Bool) → Bool) (start : List Step) (values : List ℕ) (steps : List Step) (r : Result Pass Clash) → IsErr r → Clashed X start values steps → Swept X start values steps r
+swept_err X start values steps (Ok pass) e h = absurd (both_ways false refl e)
+swept_err X start values steps (Err clash) e h = h

@@ -1,106 +1,111 @@
 -- One turn of the search: a decision, a step back from a clash, or the end; and why the search ends.
-use Rattle.std.proofs.Common.{◌≡◌, ℕ, ◌+◌, ◌-◌, ◌*◌, ◌/◌, ◌^◌, ◌<◌, ◌≤◌, Bool, true, false, cond, ◌&&◌, eqb, List, length, get_or, take, set, sym, refl, ap, ◌∙◌, subst, inl, inr, ⊎_elim, arith, length-set}
-use Rattle.std.proofs.lemmas.Bool.{cases_eq, cases_lt, cond-true, cond-false, eq-eqb, ne_eqb}
-use Rattle.std.proofs.lemmas.List.{get_or_past}
+use Rattle.std.proofs.Common.{◌≡◌, ℕ, ◌-◌, ◌*◌, ◌/◌, ◌^◌, ◌<◌, ◌≤◌, Bool, true, cond, ◌&&◌, eqb, ltb, List, [], ◌∷◌, ◌++◌, length, get_or, set, sym, refl, ap, ◌∙◌, ⊎_elim, arith, append_assoc, length-append, length-set}
+use Rattle.std.proofs.lemmas.Bool.{cases_eq, cases_lt, cond-true, cond-false, eq-eqb, ne_eqb, and_from}
+use Rattle.std.proofs.lemmas.List.{get_or_past, map-append, length-map}
 use Rattle.chooser.specs.Ways.{lit, every, allotted, written}
 use Rattle.rows.specs.Rows.{inside, holds}
-use Rattle.rows.proofs.Lits.{lit_same, every_same, bits_from, false_from}
+use Rattle.rows.specs.Lits.{opposite}
+use Rattle.rows.proofs.Lits.{lit_same, every_same, bits_from, opposite_variable}
 use Rattle.rows.proofs.Rows.{holds_same}
-use Rattle.weight.specs.Weight.{weight}
-use Rattle.weight.proofs.Marks.{push_rises, jump_rises, below_top}
-use Rattle.backtrack.specs.Values.{Opened, bit, opposite}
-use Rattle.backtrack.specs.Trail.{Dead, Trail, Reopened}
+use Rattle.weight.specs.Weight.{weight, digits}
+use Rattle.weight.proofs.Rises.{pushes, jumps, bounded}
+use Rattle.backtrack.specs.Values.{Opened, bit}
+use Rattle.backtrack.specs.Trail.{marks, digit_of, Trail, Undone}
 use Rattle.backtrack.specs.Solved.{allowed, Hit}
-use Rattle.backtrack.specs.Swept.{Swept, Ended}
-use Rattle.backtrack.specs.declared.End.{End}
-use Rattle.backtrack.specs.declared.End.TheVariants.{Clash, Moved, Open}
-use Rattle.backtrack.proofs.Values.{opens_most, opposite_variable}
-use Rattle.backtrack.proofs.Trails.{room, trail_push, trail_cut, dead_back, dead_flip}
+use Rattle.backtrack.specs.declared.trail.Step.{Step}
+use Rattle.backtrack.specs.declared.trail.Step.TheVariants.{Decided, Follows}
+use Rattle.backtrack.proofs.Values.{opens_most}
+use Rattle.backtrack.proofs.Trails.{trail_push, room}
 
-pub trail_start : (X : (ℕ → Bool) → Bool) (values trail marks : List ℕ) → length trail ≡ length values → length marks ≡ length values → ((k : ℕ) → k < length values → get_or values k 0 ≡ 2) → Trail X values trail marks 0
-trail_start X values trail marks a b all =
+pub trail_start : (X : (ℕ → Bool) → Bool) (values : List ℕ) → ((k : ℕ) → k < length values → get_or values k 0 ≡ 2) → Trail X values []
+trail_start X values all =
     record {
-      trail_long = a;
-      marks_long = b;
       small = λ k. ⊎_elim (λ lt. omega (arith, all k lt)) (λ ge. omega (arith, get_or_past values k 0 ge)) (cases_lt k (length values));
       witness = λ k lt ne. absurd (ne (all k lt));
-      named = λ j lt. let z : ⊥ = omega arith in absurd z;
+      named = refl;
       counted = omega (arith, opens_most values);
-      places = λ j lt. let z : ⊥ = omega arith in absurd z;
-      good = refl;
+      sound = tt;
     }
 
--- a heavier trail is nearer to the bound
-pub falls : (X : (ℕ → Bool) → Bool) (values trail marks : List ℕ) (d n was : ℕ) → Trail X values trail marks d → length values ≡ n → was < weight n (take d marks) → 3 ^ n - weight n (take d marks) < 3 ^ n - was
-falls X values trail marks d n was t size up =
-    let c = t.counted in
-    let top = below_top marks n d (t.marks_long ∙ size) t.good (omega arith) in
-    omega arith
+-- the weight of the steps, of which there are at most n
+abbrev pub load : ℕ → List Step → ℕ
+load n steps = weight n (marks steps)
 
-module _ (X : (ℕ → Bool) → Bool) (old : List ℕ) (from : ℕ) (values trail marks : List ℕ) (d n : ℕ) (end : End)
-    (size : length values ≡ n) (pass : Swept X old from values trail marks d end) where
-  rises : weight n (take from old) + (d - from) ≤ weight n (take d marks)
-  rises = subst (λ k. weight k (take from old) + (d - from) ≤ weight k (take d marks)) size pass.rises
+marks_digits : (steps : List Step) → digits (marks steps) ≡ true
+marks_digits [] = refl
+marks_digits (Decided l ∷ ss) = and_from (ltb 1 3) (digits (marks ss)) refl (marks_digits ss)
+marks_digits (Follows l ∷ ss) = and_from (ltb 2 3) (digits (marks ss)) refl (marks_digits ss)
 
-  pub moved_less : end ≡ Moved → 3 ^ n - weight n (take d marks) < 3 ^ n - weight n (take from old)
-  moved_less e =
-      let lt : from < d = subst (Ended X values trail from d) e pass.ends in
-      falls X values trail marks d n (weight n (take from old)) pass.goes size (omega (arith, rises))
+digit_positive : (s : Step) → 0 < digit_of s
+digit_positive (Decided l) = omega arith
+digit_positive (Follows l) = omega arith
 
-  module _ (l : ℕ) (e : end ≡ Open l) where
-    opened : Opened values l
-    opened = subst (Ended X values trail from d) e pass.ends
+weight_more : (v : ℕ) (ds es : List ℕ) → weight v ds ≤ weight v (ds ++ es)
+weight_more v [] es = omega arith
+weight_more v (d ∷ ds) es = omega (arith, weight_more (v - 1) ds es)
 
-    pub open_room : (l / 2 < length values) × (d < length values)
-    open_room = (let a = opened.0 in omega arith, room X values trail marks d pass.goes l opened)
+load_more : (n : ℕ) (steps more : List Step) → load n steps ≤ load n (steps ++ more)
+load_more n steps more = omega (arith, weight_more n (marks steps) (marks more), ap (weight n) (map-append digit_of steps more))
 
-    pub open_again : Trail X (set values (l / 2) (bit l)) (set trail d l) (set marks d 1) (d + 1)
-    open_again = trail_push X values trail marks d pass.goes l 1 opened (inl refl)
+load_push : (n : ℕ) (steps : List Step) (s : Step) → length steps < n → load n steps < load n (steps ++ (s ∷ []))
+load_push n steps s lt =
+    omega (arith, pushes n (digit_of s) (marks steps) (omega (arith, length-map steps digit_of)) (digit_positive s), ap (weight n) (map-append digit_of steps (s ∷ [])))
 
-    pub open_less : 3 ^ n - weight n (take (d + 1) (set marks d 1)) < 3 ^ n - weight n (take from old)
-    open_less =
-        let t = pass.goes in
-        let up = push_rises marks n d (t.marks_long ∙ size) t.good 1 (let r = open_room.1 in omega arith) (omega arith) in
-        falls X (set values (l / 2) (bit l)) (set trail d l) (set marks d 1) (d + 1) n (weight n (take from old)) open_again (length-set values (l / 2) (bit l) ∙ size) (omega (arith, rises))
+load_rises : (n : ℕ) (steps more : List Step) → length (steps ++ more) ≤ n → (more ≡ [] → ⊥) → load n steps < load n (steps ++ more)
+load_rises n steps [] le some-more = absurd (some-more refl)
+load_rises n steps (s ∷ ss) le some-more =
+    let first = load_push n steps s (omega (arith, length-append steps (s ∷ ss))) in
+    omega (arith, load_more n (steps ++ (s ∷ [])) ss, ap (load n) (append_assoc steps (s ∷ []) ss))
 
-  module _ (e : end ≡ Clash) (last : ℕ) (after : (k : ℕ) → last ≤ k → k < d → get_or marks k 0 ≡ 1 → ⊥) (le : last ≤ d) where
-    dead_last : Dead X trail last
-    dead_last = dead_back X values trail marks d pass.goes (d - last) last d (omega arith) (omega arith) after (subst (Ended X values trail from d) e pass.ends)
+load_jump : (n : ℕ) (steps behind : List Step) (l k : ℕ) → length (steps ++ (Decided l ∷ behind)) ≤ n → load n (steps ++ (Decided l ∷ behind)) < load n (steps ++ (Follows k ∷ []))
+load_jump n steps behind l k le =
+    omega (
+      arith,
+      jumps n (marks steps) (marks behind) (omega (arith, length-map steps digit_of, length-map behind digit_of, length-append steps (Decided l ∷ behind))) (marks_digits behind),
+      ap (weight n) (map-append digit_of steps (Decided l ∷ behind)),
+      ap (weight n) (map-append digit_of steps (Follows k ∷ [])),
+    )
 
-    pub clash_never : last ≡ 0 → (p : ℕ → Bool) → X p ≡ false
-    clash_never z p = false_from (X p) (λ x. dead_last p x (λ j lt. let y : ⊥ = omega arith in absurd y))
+module _ (X : (ℕ → Bool) → Bool) where
+  -- a heavier trail is nearer to the bound
+  falls : (values : List ℕ) (steps : List Step) (n was : ℕ) → Trail X values steps → length values ≡ n → was < load n steps → 3 ^ n - load n steps < 3 ^ n - was
+  falls values steps n was t size up =
+      let c = t.counted in
+      let top = bounded n (marks steps) (omega (arith, length-map steps digit_of)) (marks_digits steps) in
+      omega arith
 
-    module _ (some-decision : last ≡ 0 → ⊥) (out : List ℕ) (long : length out ≡ length values) (r : Reopened values out trail (last - 1) d) where
-      opened_again : Opened out (opposite (get_or trail (last - 1) 0))
+  module _ (start : List Step) (values : List ℕ) (steps more : List Step) (n : ℕ) (size : length values ≡ n) (goes : Trail X values steps) (grown : steps ≡ start ++ more) where
+    long : length (start ++ more) ≤ n
+    long = let c = goes.counted in omega (arith, ap length grown)
+
+    pub moved_less : (more ≡ [] → ⊥) → 3 ^ n - load n steps < 3 ^ n - load n start
+    moved_less some-more = falls values steps n (load n start) goes size (omega (arith, load_rises n start more long some-more, ap (load n) grown))
+
+    module _ (l : ℕ) (h : Opened values l) where
+      pub open_again : Trail X (set values (l / 2) (bit l)) (steps ++ (Decided l ∷ []))
+      open_again = trail_push X values steps goes (Decided l) h tt
+
+      pub open_less : 3 ^ n - load n (steps ++ (Decided l ∷ [])) < 3 ^ n - load n start
+      open_less =
+          falls (set values (l / 2) (bit l)) (steps ++ (Decided l ∷ [])) n (load n start) open_again (length-set values (l / 2) (bit l) ∙ size)
+          (omega (arith, load_more n start more, ap (load n) grown, load_push n steps (Decided l) (omega (arith, room X values steps goes l h))))
+
+    -- the last decision was taken back, and its opposite follows
+    module _ (out : List ℕ) (left : List Step) (l : ℕ) (u : Undone X steps out left l) where
+      pub opened_again : Opened out (opposite l)
       opened_again =
-          let l = get_or trail (last - 1) 0 in
-          let below = pass.goes.named (last - 1) (omega arith) in
+          let o = u.opened in
           let same = opposite_variable l in
-          (omega arith, ap (λ k. get_or out k 0) same ∙ r.cleared (last - 1) (omega arith) (omega arith))
+          (let a = o.0 in omega arith, ap (λ k. get_or out k 0) same ∙ o.1)
 
-      cut : Trail X out trail marks (last - 1)
-      cut = trail_cut X values trail marks d pass.goes out (last - 1) (omega arith) long r
+      pub clash_again : Trail X (set out (opposite l / 2) (bit (opposite l))) (left ++ (Follows (opposite l) ∷ []))
+      clash_again = trail_push X out left u.goes (Follows (opposite l)) opened_again u.flips
 
-      pub clash_room : (opposite (get_or trail (last - 1) 0) / 2 < length out) × (last - 1 < length out)
-      clash_room = (let a = opened_again.0 in omega arith, room X out trail marks (last - 1) cut (opposite (get_or trail (last - 1) 0)) opened_again)
-
-      pub clash_again : Trail X (set out (opposite (get_or trail (last - 1) 0) / 2) (bit (opposite (get_or trail (last - 1) 0)))) (set trail (last - 1) (opposite (get_or trail (last - 1) 0))) (set marks (last - 1) 2) last
-      clash_again =
-          let l = opposite (get_or trail (last - 1) 0) in
-          let same : last - 1 + 1 ≡ last = omega arith in
-          let dead : Dead X trail (last - 1 + 1) = subst (Dead X trail) (sym same) dead_last in
-          subst (Trail X (set out (l / 2) (bit l)) (set trail (last - 1) l) (set marks (last - 1) 2)) same
-          (trail_push X out trail marks (last - 1) cut l 2 opened_again (inr (refl, dead_flip X trail (last - 1) dead)))
-
-      pub clash_less : get_or marks (last - 1) 0 ≡ 1 → 3 ^ n - weight n (take last (set marks (last - 1) 2)) < 3 ^ n - weight n (take from old)
-      clash_less one =
-          let l = opposite (get_or trail (last - 1) 0) in
-          let t = pass.goes in
-          let c = t.counted in
-          let same : last - 1 + 1 ≡ last = omega arith in
-          let up = jump_rises marks n d (t.marks_long ∙ size) t.good (last - 1) (omega arith) (omega arith) one in
-          let over : weight n (take from old) < weight n (take last (set marks (last - 1) 2)) = subst (λ k. weight n (take from old) < weight n (take k (set marks (last - 1) 2))) same (omega (arith, rises)) in
-          falls X (set out (l / 2) (bit l)) (set trail (last - 1) l) (set marks (last - 1) 2) last n (weight n (take from old)) clash_again (length-set out (l / 2) (bit l) ∙ long ∙ size) over
+      pub clash_less : length out ≡ n → 3 ^ n - load n (left ++ (Follows (opposite l) ∷ [])) < 3 ^ n - load n start
+      clash_less long-out =
+          let whole : length (left ++ (Decided l ∷ u.behind)) ≤ n = let c = goes.counted in omega (arith, ap length u.was) in
+          falls (set out (opposite l / 2) (bit (opposite l))) (left ++ (Follows (opposite l) ∷ [])) n (load n start) clash_again (length-set out (opposite l / 2) (bit (opposite l)) ∙ long-out)
+          (omega (arith, load_more n start more, ap (load n) grown, ap (load n) u.was, load_jump n left u.behind l (opposite l) whole))
 
 -- the values once each open variable has the value 0
 module _ (row assumptions values out : List ℕ) (size : length out ≡ length values) (small : (k : ℕ) → get_or values k 0 ≤ 2)

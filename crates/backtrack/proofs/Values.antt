@@ -1,9 +1,9 @@
 -- Values of which some are open: writing one, counting the open ones, and what the values make of a literal.
-use Rattle.std.proofs.Common.{◌≡◌, ℕ, zero, suc, ◌+◌, ◌-◌, ◌/◌, ◌%◌, ◌<◌, ◌≤◌, Bool, true, false, cond, not, eqb, List, [], ◌∷◌, length, get_or, set, sym, refl, ap, ◌∙◌, ⊎_elim, arith, get_or-set_same}
+use Rattle.std.proofs.Common.{◌≡◌, ℕ, zero, suc, ◌+◌, ◌/◌, ◌%◌, ◌<◌, ◌≤◌, true, false, cond, not, eqb, List, [], ◌∷◌, length, get_or, set, ◌∙◌, ⊎_elim, arith, get_or-set_same}
 use Rattle.std.proofs.lemmas.Bool.{cases_eq, cond-true, cond-false, eq-eqb, ne_eqb, not_from_false}
 use Rattle.chooser.specs.Ways.{lit, written}
 use Rattle.rows.proofs.Lits.{lit_same}
-use Rattle.backtrack.specs.Values.{opens, Off, bit, opposite}
+use Rattle.backtrack.specs.Values.{opens, Off, bit}
 
 one : (x : ℕ) → cond (eqb x 2) 1 0 ≤ 1
 one x = elim (eqb x 2) as (λ b. cond {A = ℕ} b 1 0 ≤ 1) [ true ↦ omega arith | false ↦ omega arith ]
@@ -35,35 +35,3 @@ bit_true vs l lt =
 
 pub off_from : (vs : List ℕ) (l : ℕ) → l / 2 < length vs → (get_or vs (l / 2) 0 ≡ 2 → ⊥) → lit (written vs) l ≡ false → Off vs l
 off_from vs l lt ne e p agree = lit_same p (written vs) l (agree (l / 2) lt ne) ∙ e
-
-twice : (b : Bool) → b ≡ not (not b)
-twice true = refl
-twice false = refl
-
-module _ (l : ℕ) where
-  pub opposite_variable : opposite l / 2 ≡ l / 2
-  opposite_variable =
-      ⊎_elim
-      (λ z. ap (λ k. k / 2) (cond-true (eqb (l % 2) 0) (l + 1) (l - 1) (eq-eqb (l % 2) 0 z)) ∙ (let h : (l + 1) / 2 ≡ l / 2 = omega arith in h))
-      (λ nz. ap (λ k. k / 2) (cond-false (eqb (l % 2) 0) (l + 1) (l - 1) (ne_eqb (l % 2) 0 nz)) ∙ (let h : (l - 1) / 2 ≡ l / 2 = omega arith in h))
-      (cases_eq (l % 2) 0)
-
-  pub lit_opposite : (p : ℕ → Bool) → lit p (opposite l) ≡ not (lit p l)
-  lit_opposite p =
-      ⊎_elim
-      (λ z.
-      let odd : (l + 1) % 2 ≡ 0 → ⊥ = λ h. omega arith in
-      let same : (l + 1) / 2 ≡ l / 2 = omega arith in
-      ap (lit p) (cond-true (eqb (l % 2) 0) (l + 1) (l - 1) (eq-eqb (l % 2) 0 z))
-      ∙ cond-false (eqb ((l + 1) % 2) 0) (p ((l + 1) / 2)) (not (p ((l + 1) / 2))) (ne_eqb ((l + 1) % 2) 0 odd)
-      ∙ ap (λ k. not (p k)) same
-      ∙ ap not (sym (cond-true (eqb (l % 2) 0) (p (l / 2)) (not (p (l / 2))) (eq-eqb (l % 2) 0 z))))
-      (λ nz.
-      let even : (l - 1) % 2 ≡ 0 = omega arith in
-      let same : (l - 1) / 2 ≡ l / 2 = omega arith in
-      ap (lit p) (cond-false (eqb (l % 2) 0) (l + 1) (l - 1) (ne_eqb (l % 2) 0 nz))
-      ∙ cond-true (eqb ((l - 1) % 2) 0) (p ((l - 1) / 2)) (not (p ((l - 1) / 2))) (eq-eqb ((l - 1) % 2) 0 even)
-      ∙ ap p same
-      ∙ twice (p (l / 2))
-      ∙ ap not (sym (cond-false (eqb (l % 2) 0) (p (l / 2)) (not (p (l / 2))) (ne_eqb (l % 2) 0 nz))))
-      (cases_eq (l % 2) 0)

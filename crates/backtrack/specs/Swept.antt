@@ -1,36 +1,58 @@
--- What a pass over the assumptions and clauses comes to.
-use Rattle.std.specs.Prelude.{◌≡◌, ℕ, ◌+◌, ◌-◌, ◌<◌, ◌≤◌, Bool, true, List, length, take, Some, None, Option}
-use Rattle.chooser.specs.Ways.{lit, written}
-use Rattle.weight.specs.Weight.{weight}
+-- What a pass over clauses comes to. X tells which ways are allowed.
+use Rattle.std.specs.Prelude.{◌≡◌, ℕ, Bool, true, List, [], ◌∷◌, ◌++◌, Ok, Err, Result, Some, None, Option, map}
+use Rattle.std.specs.List.{list_all}
+use Rattle.std.specs.Option.{option_or}
+use Rattle.chooser.specs.Ways.{lit, some, written}
 use Rattle.backtrack.specs.Values.{Opened}
-use Rattle.backtrack.specs.Trail.{Trail, Dead}
-use Rattle.backtrack.specs.Rest.{rest}
-use Rattle.backtrack.specs.Solved.{allowed}
-use Rattle.backtrack.specs.declared.End.{End}
-use Rattle.backtrack.specs.declared.End.TheVariants.{Clash, Moved, Open, Met}
+use Rattle.backtrack.specs.Trail.{Trail, Dead, lits}
+use Rattle.backtrack.specs.declared.trail.Step.{Step}
+use Rattle.backtrack.specs.declared.Clash.{Clash}
+use Rattle.backtrack.specs.declared.Pass.{Pass}
+use Rattle.backtrack.specs.declared.Pass.TheVariants.{Moved, Open, Met}
 
-abbrev pub Ended : ((ℕ → Bool) → Bool) → List ℕ → List ℕ → ℕ → ℕ → End → Type 0
-Ended X values trail from d Clash = Dead X trail d
-Ended X values trail from d Moved = from < d
-Ended X values trail from d (Open l) = Opened values l
-Ended X values trail from d Met = X (written values) ≡ true
+-- each clause has a literal that the way makes true
+abbrev pub met : List (List ℕ) → (ℕ → Bool) → Bool
+met clauses p = list_all (some (lit p)) clauses
 
--- the weight of the trail's marks rose by at least one for each literal that was put on it
-pub record Swept (X : (ℕ → Bool) → Bool) (old : List ℕ) (from : ℕ) (values trail marks : List ℕ) (d : ℕ) (end : End) : Type 0 where
-  pub goes : Trail X values trail marks d
-  pub later : from ≤ d
-  pub rises : weight (length values) (take from old) + (d - from) ≤ weight (length values) (take d marks)
-  pub ends : Ended X values trail from d end
+-- each assumption as a clause of one literal
+abbrev pub singles : List ℕ → List (List ℕ)
+singles assumptions = map (λ l. l ∷ []) assumptions
 
--- while nothing was put on the trail: all clauses before the place are met, or a literal is open
-abbrev pub Calm : List ℕ → List ℕ → ℕ → List ℕ → Option ℕ → Type 0
-Calm row assumptions at values None = allowed row assumptions (written values) ≡ rest row assumptions at (lit (written values))
-Calm row assumptions at values (Some l) = Opened values l
+-- while nothing was put on the trail: what is left decides whether the values are allowed, or a literal is open
+abbrev pub Calm : ((ℕ → Bool) → Bool) → List (List ℕ) → List ℕ → Option ℕ → Type 0
+Calm X left values None = X (written values) ≡ met left (written values)
+Calm X left values (Some l) = Opened values l
 
--- what is known when a pass has come to a place
-pub record Passing (row assumptions : List ℕ) (at : ℕ) (old : List ℕ) (from : ℕ) (values trail marks : List ℕ) (d : ℕ) (open-literal : Option ℕ) : Type 0 where
-  pub goes : Trail (allowed row assumptions) values trail marks d
-  pub later : from ≤ d
-  pub rises : weight (length values) (take from old) + (d - from) ≤ weight (length values) (take d marks)
-  pub owed : (p : ℕ → Bool) → allowed row assumptions p ≡ true → rest row assumptions at (lit p) ≡ true
-  pub calm : d ≡ from → Calm row assumptions at values open-literal
+-- what is known while clauses are left to be looked at
+pub record Passing (X : (ℕ → Bool) → Bool) (left : List (List ℕ)) (start : List Step) (values : List ℕ) (steps : List Step) (open-literal : Option ℕ) : Type 0 where
+  pub goes : Trail X values steps
+  pub more : List Step
+  pub grown : steps ≡ start ++ more
+  pub owed : (p : ℕ → Bool) → X p ≡ true → met left p ≡ true
+  pub calm : more ≡ [] → Calm X left values open-literal
+
+-- a clause is false
+pub record Clashed (X : (ℕ → Bool) → Bool) (start : List Step) (values : List ℕ) (steps : List Step) : Type 0 where
+  pub goes : Trail X values steps
+  pub more : List Step
+  pub grown : steps ≡ start ++ more
+  pub dead : Dead X (lits steps)
+
+abbrev pub Visited : ((ℕ → Bool) → Bool) → List (List ℕ) → List Step → List ℕ → List Step → Option ℕ → Result (Option ℕ) Clash → Type 0
+Visited X left start values steps open-literal (Ok o) = Passing X left start values steps (option_or open-literal o)
+Visited X left start values steps open-literal (Err e) = Clashed X start values steps
+
+abbrev pub Passed : ((ℕ → Bool) → Bool) → List Step → List ℕ → List Step → Pass → Type 0
+Passed X more values steps Moved = (more ≡ [] → ⊥)
+Passed X more values steps (Open l) = Opened values l
+Passed X more values steps Met = X (written values) ≡ true
+
+pub record Whole (X : (ℕ → Bool) → Bool) (start : List Step) (values : List ℕ) (steps : List Step) (pass : Pass) : Type 0 where
+  pub goes : Trail X values steps
+  pub more : List Step
+  pub grown : steps ≡ start ++ more
+  pub ends : Passed X more values steps pass
+
+abbrev pub Swept : ((ℕ → Bool) → Bool) → List Step → List ℕ → List Step → Result Pass Clash → Type 0
+Swept X start values steps (Ok pass) = Whole X start values steps pass
+Swept X start values steps (Err e) = Clashed X start values steps

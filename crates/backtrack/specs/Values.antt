@@ -1,5 +1,5 @@
 -- Values of which some are open: 0, 1, or 2 for an open variable.
-use Rattle.std.specs.Prelude.{◌≡◌, ℕ, ◌+◌, ◌-◌, ◌*◌, ◌/◌, ◌%◌, ◌<◌, Bool, false, cond, List, [], ◌∷◌, length, ◌==◌, ◌≢◌, slice_index}
+use Rattle.std.specs.Prelude.{◌≡◌, ℕ, ◌+◌, ◌-◌, ◌*◌, ◌/◌, ◌%◌, ◌<◌, Bool, false, cond, List, [], ◌∷◌, length, ◌==◌, ◌≢◌, Some, None, Option, slice_index}
 use Rattle.chooser.specs.Ways.{lit, written}
 
 -- how many variables are open
@@ -23,6 +23,7 @@ Off values l = (p : ℕ → Bool) → Agrees p values → lit p l ≡ false
 abbrev pub bit : ℕ → ℕ
 bit l = 1 - l % 2
 
--- the other literal of the variable
-abbrev pub opposite : ℕ → ℕ
-opposite l = cond (l % 2 == 0) (l + 1) (l - 1)
+-- whether the values make the literal true; nothing is said while its variable is open
+abbrev pub Truth : List ℕ → ℕ → Option Bool → Type 0
+Truth values l None = slice_index values (l / 2) ≡ 2
+Truth values l (Some b) = (slice_index values (l / 2) ≢ 2) × (lit (written values) l ≡ b)

@@ -1,7 +1,10 @@
 // A clause under values that are 0, 1 or, for a variable that is open, 2.
 ghost use Rattle.std.specs.Prelude.{◌≡◌, ◌/◌, ◌<◌, true, length};
-ghost use Rattle.chooser.specs.Ways.{lit, allotted, written};
+ghost use Rattle.chooser.specs.Ways.{allotted};
 ghost use Rattle.backtrack.specs.Told.{Told};
+ghost use Rattle.backtrack.specs.Values.{Truth};
+
+use super::OPEN;
 
 // What the values make of a clause.
 #[derive(Clone, Copy)]
@@ -16,37 +19,33 @@ pub(crate) enum Status {
     Met,
 }
 
-// Returns whether the literal is true, an open variable being taken for 0.
-fn is_true(values: &[u8], l: u16) -> bool
+// Returns whether the literal is true, or None while its variable is open.
+fn truth(values: &[u8], l: u16) -> Option<bool>
     requires { l / 2 < length values.now }
-    ensures { result ≡ lit (written values.now) l }
+    ensures { Truth values.now l result }
 {
-    let one = values[(l / 2) as usize] == 1;
-    if l % 2 == 0 { one } else { !one }
+    let value = values[(l / 2) as usize];
+    if value == OPEN {
+        return None;
+    }
+    Some((value == 1) == (l % 2 == 0))
 }
 
 pub(crate) fn inspect(clause: &[u16], values: &[u8]) -> Status
     requires { allotted (length values.now) clause.now ≡ true }
     ensures { Told values.now clause.now result }
 {
-    let mut open = None;
-    let mut many = false;
+    let mut status = Status::Clash;
     for l in clause {
-        if values[(*l / 2) as usize] == 2 {
-            match open {
-                None => open = Some(*l),
-                Some(_) => many = true,
-            }
-        } else if is_true(values, *l) {
-            return Status::Met;
+        match truth(values, *l) {
+            Some(true) => return Status::Met,
+            Some(false) => {}
+            None => status = match status {
+                Status::Clash => Status::Forced(*l),
+                Status::Forced(first) => Status::Open(first),
+                more => more,
+            },
         }
     }
-    match open {
-        None => Status::Clash,
-        Some(l) => if many {
-            Status::Open(l)
-        } else {
-            Status::Forced(l)
-        },
-    }
+    status
 }

@@ -2,30 +2,37 @@
 // It is a loop over a trail of literals, and needs no stack that grows with the variables.
 #![tactic(auto)]
 
-ghost use Rattle.std.specs.Prelude.{◌≡◌, ◌+◌, ◌-◌, ◌/◌, ◌<◌, ◌≤◌, true, length, slice_index};
+ghost use Rattle.std.specs.Prelude.{◌≡◌, ℕ, ◌+◌, ◌≤◌, Bool, true, List, ◌∷◌, Option, length, vec_capacity};
 ghost use Rattle.chooser.specs.Ways.{allotted};
 ghost use Rattle.rows.specs.Rows.{inside};
 ghost use Rattle.backtrack.specs.Solved.{allowed, Solved};
-ghost use Rattle.backtrack.specs.Rest.{clause_there, place_behind, Rest};
+ghost use Rattle.backtrack.specs.Values.{opens};
 ghost use Rattle.backtrack.specs.Trail.{Trail};
-ghost use Rattle.backtrack.specs.Swept.{Swept};
+ghost use Rattle.backtrack.specs.Swept.{Passing, Visited, Swept};
+ghost use Rattle.backtrack.specs.declared.trail.Step.{Step};
 
 mod clause;
+mod steps;
 mod trail;
 
+use chooser::Answer;
 use clause::{Status, inspect};
-use trail::{back, finish, push, reopen, turned};
+use rows::{ClauseIter, turned};
+use steps::{finish, push, take_back};
+pub use trail::Step;
 
-// A place of the trail is marked as a decision, or as a literal that follows from those before it.
-const DECIDED: u8 = 1;
+// The value of a variable that is open.
+// Kept as it is: the values are the bytes of the answer, which the caller lends and which has 0 or 1 for each variable. An
+// enum for them would be memory of the search's own, of a byte more for each variable.
+const OPEN: u8 = 2;
 
-const FOLLOWS: u8 = 2;
-
-// How a pass over the assumptions and clauses ended.
+// A clause or an assumption is false.
 #[derive(Clone, Copy)]
-pub(crate) enum End {
-    // One of them is false.
-    Clash,
+pub(crate) struct Clash;
+
+// What a pass over the assumptions and clauses came to, where none is false.
+#[derive(Clone, Copy)]
+pub(crate) enum Pass {
     // Literals were put on the trail, so that another pass is due.
     Moved,
     // A literal of a clause that is not met yet is open.
@@ -34,116 +41,79 @@ pub(crate) enum End {
     Met,
 }
 
-#[derive(Clone, Copy)]
-pub(crate) struct Pass {
-    depth: usize,
-    end: End,
-}
-
-// Returns the clause at a place of the assumptions, each a clause of one literal, or of the row behind them, and the next place.
-fn clause_at<'a>(row: &'a [u16], assumptions: &'a [u16], at: usize) -> (&'a [u16], usize)
-    requires within { at < length assumptions.now + length row.now }
-    requires fits { length assumptions.now ≤ at → at - length assumptions.now + 1 + slice_index row.now (at - length assumptions.now) ≤ length row.now }
-    ensures clause { result.0.now ≡ clause_there row.now assumptions.now at }
-    ensures next { result.1 ≡ place_behind row.now assumptions.now at }
+// Looks at a clause, and puts its literal on the trail where it leaves one alone. Returns a literal that it leaves open.
+fn visit(clause: &[u16], values: &mut [u8], trail: &mut Vec<Step>) -> Result<Option<u16>, Clash>
+    requires named { allotted (length values.old) clause.now ≡ true }
+    requires room { opens values.old + length trail.old.items ≤ vec_capacity trail.old }
+    ensures visited { (X : (ℕ → Bool) → Bool) (left : List (List ℕ)) (start : List Step) (o : Option ℕ) → Passing X (clause.now ∷ left) start values.old trail.old.items o → Visited X left start values.new trail.new.items o result }
+    ensures capacity { vec_capacity trail.new ≡ vec_capacity trail.old }
 {
-    if at < assumptions.len() {
-        return (&assumptions[at..at + 1], at + 1);
+    match inspect(clause, values) {
+        Status::Clash => Err(Clash),
+        Status::Forced(l) => {
+            push(values, trail, Step::Follows(l));
+            Ok(None)
+        }
+        Status::Open(l) => Ok(Some(l)),
+        Status::Met => Ok(None),
     }
-    let start = at - assumptions.len();
-    let end = start + 1 + row[start] as usize;
-    (&row[start + 1..end], assumptions.len() + end)
 }
 
-// Goes over the assumptions and clauses once, and puts on the trail each literal that one of them leaves alone.
+// Goes over the assumptions, each a clause of one literal, and the clauses once.
 fn sweep(
     row: &[u16],
     assumptions: &[u16],
     values: &mut [u8],
-    trail: &mut [u16],
-    marks: &mut [u8],
-    from: usize,
-) -> Pass
-    requires rest { Rest (length values.old) row.now assumptions.now 0 }
-    requires trail { Trail (allowed row.now assumptions.now) values.old trail.old marks.old from }
-    ensures { Swept (allowed row.now assumptions.now) marks.old from values.new trail.new marks.new result.depth result.end }
+    trail: &mut Vec<Step>,
+) -> Result<Pass, Clash>
+    requires row { inside (length values.old) 0 row.now ≡ true }
+    requires assumptions { allotted (length values.old) assumptions.now ≡ true }
+    requires trail { Trail (allowed row.now assumptions.now) values.old trail.old.items }
+    requires room { length values.old ≤ vec_capacity trail.old }
+    ensures swept { Swept (allowed row.now assumptions.now) trail.old.items values.new trail.new.items result }
+    ensures capacity { vec_capacity trail.new ≡ vec_capacity trail.old }
 {
-    let mut depth = from;
+    let from = trail.len();
     let mut open = None;
-    let mut at = 0;
-    while at < assumptions.len() + row.len() {
-        let (clause, next) = clause_at(row, assumptions, at);
-        match inspect(clause, values) {
-            Status::Clash => return Pass {
-                depth,
-                end: End::Clash,
-            },
-            Status::Forced(l) => {
-                push(values, trail, marks, depth, l, FOLLOWS);
-                depth += 1;
-            }
-            Status::Open(l) => open = open.or(Some(l)),
-            Status::Met => {}
-        }
-        at = next;
+    for l in assumptions {
+        open = open.or(visit(&[*l], values, trail)?);
     }
-    if depth > from {
-        return Pass {
-            depth,
-            end: End::Moved,
-        };
+    for clause in ClauseIter::new(row) {
+        open = open.or(visit(clause, values, trail)?);
+    }
+    if trail.len() > from {
+        return Ok(Pass::Moved);
     }
     match open {
-        Some(l) => Pass {
-            depth,
-            end: End::Open(l),
-        },
-        None => Pass {
-            depth,
-            end: End::Met,
-        },
+        Some(l) => Ok(Pass::Open(l)),
+        None => Ok(Pass::Met),
     }
 }
 
 // Writes into `values` a way that meets every clause of the row and every assumption, or answers that there is none.
-// `trail` and `marks` are working memory, as long as `values`.
-pub fn solve(
-    row: &[u16],
-    assumptions: &[u16],
-    values: &mut [u8],
-    trail: &mut [u16],
-    marks: &mut [u8],
-) -> bool
-    requires trail { length trail.old ≡ length values.old }
-    requires marks { length marks.old ≡ length values.old }
+// `trail` is working memory, with room for a step for each variable.
+pub fn solve(row: &[u16], assumptions: &[u16], values: &mut [u8], trail: &mut Vec<Step>) -> Answer
+    requires room { length values.old ≤ vec_capacity trail.old }
     requires row { inside (length values.old) 0 row.now ≡ true }
     requires assumptions { allotted (length values.old) assumptions.now ≡ true }
-    ensures { Solved row.now assumptions.now values.new result }
+    ensures solved { Solved row.now assumptions.now values.new result }
+    ensures capacity { vec_capacity trail.new ≡ vec_capacity trail.old }
 {
-    values.fill(2);
-    let mut depth = 0;
+    values.fill(OPEN);
+    trail.clear();
     loop {
-        let pass = sweep(row, assumptions, values, trail, marks, depth);
-        depth = pass.depth;
-        match pass.end {
-            End::Moved => {}
-            End::Open(l) => {
-                push(values, trail, marks, depth, l, DECIDED);
-                depth += 1;
-            }
-            End::Met => {
+        match sweep(row, assumptions, values, trail) {
+            Ok(Pass::Moved) => {}
+            Ok(Pass::Open(l)) => push(values, trail, Step::Decided(l)),
+            Ok(Pass::Met) => {
                 finish(values);
-                return true;
+                return Answer::Yes;
             }
-            End::Clash => {
-                let last = back(marks, depth);
-                if last == 0 {
-                    return false;
-                }
-                reopen(values, trail, last - 1, depth);
-                let l = turned(trail[last - 1]);
-                push(values, trail, marks, last - 1, l, FOLLOWS);
-                depth = last;
+            Err(Clash) => {
+                let Some(l) = take_back(values, trail) else {
+                    return Answer::No;
+                };
+                push(values, trail, Step::Follows(turned(l)));
             }
         }
     }

@@ -7,6 +7,11 @@ ghost use Rattle.chooser.specs.Faults.{fault_number};
 ghost use Rattle.chooser.specs.Meaning.{Meaning, Same, Lawful};
 ghost use Rattle.chooser.specs.Steps.{NewVariable, Add, Ask};
 ghost use Rattle.chooser.specs.Claims.{EitherValue, ToldApart};
+ghost use Rattle.chooser.specs.declared.MakeFault.TheVariants.{NoMemory};
+
+use std::alloc::AllocError;
+use std::error::Error;
+use std::fmt;
 
 // Why a call is refused. A refused call changes nothing.
 #[derive(Clone, Copy, PartialEq, Eq, Debug)]
@@ -46,6 +51,38 @@ impl Fault {
             Fault::NoEntries => 63,
             Fault::WrongLength => 64,
         }
+    }
+}
+
+impl fmt::Display for Fault {
+    fn fmt<W: fmt::Write>(&self, f: &mut fmt::Formatter<W>) -> fmt::Result {
+        f.write_str(match self {
+            Fault::NoVariable => "the formula has more variables than the chooser",
+            Fault::Unallotted => "the formula has a literal of no variable",
+            Fault::NoEntries => "the formula has more entries than the chooser",
+            Fault::WrongLength => "the answer has not a byte for each variable",
+        })
+    }
+}
+
+impl Error for Fault {}
+
+impl fmt::Display for MakeFault {
+    fn fmt<W: fmt::Write>(&self, f: &mut fmt::Formatter<W>) -> fmt::Result {
+        f.write_str(match self {
+            MakeFault::TooManyEntries => "a chooser of too many entries",
+            MakeFault::NoMemory => "no memory",
+        })
+    }
+}
+
+impl Error for MakeFault {}
+
+impl From<AllocError> for MakeFault {
+    ghost from_gives = { λ _ e. e ≡ NoMemory };
+
+    fn from(_error: AllocError) -> MakeFault {
+        MakeFault::NoMemory
     }
 }
 

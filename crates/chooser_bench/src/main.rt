@@ -3,181 +3,155 @@
 // Usage: chooser_bench plain|learning FILE ..
 #![tactic(auto)]
 
-use anyhow::anyhow;
-use chooser::{Answer, Chooser};
+use chooser::{Answer, Chooser, Fault};
 use learning::Learning;
 use plain::Plain;
+use std::alloc::{AllocError, Global};
+use std::str::SplitWhitespace;
 use std::time::Instant;
-use std::{env, fs, io};
+use std::{env, fmt, fs};
 
 const ENTRIES: usize = 65535;
 
+// The most variables that a chooser of any kind has.
+const MOST_VARIABLES: usize = 32768;
+
+// The choosers that can be named.
+#[derive(Clone, Copy)]
+enum Kind {
+    Plain,
+    Learning,
+}
+
 // What a script's calls came to.
-#[derive(Clone, Copy, Drop)]
+#[derive(Default, Drop)]
 struct Score {
     yes: u32,
     no: u32,
     refused: u32,
 }
 
-// A line of the script that is being read.
-#[derive(Drop)]
-struct Line {
-    call: u8,
-    literals: [u16; 4096],
-    count: usize,
-    number: u32,
-    minus: bool,
-    digits: bool,
-}
-
-impl Line {
-    fn push(&mut self) {
-        if self.digits && self.count < 4096 && self.number > 0 && self.number <= 4096 {
-            let v = (self.number - 1) as u16;
-            self.literals[self.count] = if self.minus { 2 * v + 1 } else { 2 * v };
-            self.count += 1;
+impl Score {
+    fn answered(&mut self, answer: Result<Answer, Fault>) {
+        match answer {
+            Ok(Answer::Yes) => self.yes = self.yes.saturating_add(1),
+            Ok(Answer::No) => self.no = self.no.saturating_add(1),
+            Err(_) => self.refused = self.refused.saturating_add(1),
         }
-        self.digits = false;
-        self.minus = false;
     }
 
-    fn feed(&mut self, b: u8) {
-        if b == b'-' {
-            self.minus = true;
-            self.number = 0;
-        } else if b >= b'0' && b <= b'9' {
-            if !self.digits {
-                self.number = 0;
-            }
-            self.digits = true;
-            self.number = self.number.min(100000) * 10 + (b - b'0') as u32;
-        } else if b == b' ' || b == b'\n' {
-            self.push();
-        } else {
-            self.call = b;
-            self.count = 0;
+    fn took(&mut self, taken: Result<(), Fault>) {
+        if taken.is_err() {
+            self.refused = self.refused.saturating_add(1);
         }
     }
 }
 
-fn allot<C: Chooser>(chooser: &mut C, n: u32) -> bool {
-    for _ in 0..n {
-        if chooser.new_variable().is_err() {
-            return false;
-        }
+impl fmt::Display for Score {
+    fn fmt<W: fmt::Write>(&self, f: &mut fmt::Formatter<W>) -> fmt::Result {
+        write!(
+            f,
+            "yes {} no {} refused {}",
+            self.yes, self.no, self.refused
+        )
     }
-    true
 }
 
-fn ask<C: Chooser>(chooser: &mut C, assumptions: &[u16], score: Score) -> Score {
-    let mut answer = [0u8; 32768];
+fn literal(word: &str) -> Option<u16> {
+    let number = word.parse::<i32>().ok()?;
+    let variable = number.unsigned_abs();
+    if variable == 0 || variable > 4096 {
+        return None;
+    }
+    let positive = 2 * (variable - 1) as u16;
+    Some(if number < 0 { positive + 1 } else { positive })
+}
+
+// Puts the words' literals in place of those that were there; a word that names none is passed over.
+fn read_literals(words: SplitWhitespace, literals: &mut Vec<u16>) -> Result<(), AllocError> {
+    literals.clear();
+    for l in words.filter_map(literal) {
+        literals.push(l)?;
+    }
+    Ok(())
+}
+
+fn allot<C: Chooser>(chooser: &mut C, words: SplitWhitespace) -> Result<(), Fault> {
+    let variables = words
+        .last()
+        .and_then(|word| word.parse::<u32>().ok())
+        .unwrap_or(0);
+    for _ in 0..variables {
+        chooser.new_variable()?;
+    }
+    Ok(())
+}
+
+fn ask<C: Chooser>(
+    chooser: &mut C,
+    assumptions: &[u16],
+    values: &mut [u8],
+) -> Result<Answer, Fault> {
     let left = chooser.variables_left();
-    let most = C::variables_most();
-    let n = most.saturating_sub(left).min(32767) as usize;
-    match chooser.ask(assumptions, &mut answer[0..n]) {
-        Ok(Answer::Yes) => Score {
-            yes: score.yes.saturating_add(1),
-            no: score.no,
-            refused: score.refused,
-        },
-        Ok(Answer::No) => Score {
-            yes: score.yes,
-            no: score.no.saturating_add(1),
-            refused: score.refused,
-        },
-        Err(_) => refuse(score),
-    }
+    let count = C::variables_most().saturating_sub(left) as usize;
+    let count = count.min(values.len());
+    chooser.ask(assumptions, &mut values[..count])
 }
 
-fn refuse(score: Score) -> Score {
-    Score {
-        yes: score.yes,
-        no: score.no,
-        refused: score.refused.saturating_add(1),
-    }
-}
-
-fn call<C: Chooser>(chooser: &mut C, line: &Line, score: Score) -> Score {
-    let n = line.count;
-    if n > 4096 {
-        return refuse(score);
-    }
-    let literals = &line.literals[0..n];
-    match line.call {
-        b'v' => if allot(chooser, line.number) {
-            score
-        } else {
-            refuse(score)
-        },
-        b'a' => if chooser.add(literals).is_ok() {
-            score
-        } else {
-            refuse(score)
-        },
-        b'q' => ask(chooser, literals, score),
-        _ => score,
-    }
-}
-
-fn play<C: Chooser>(chooser: &mut C, text: &[u8]) -> Score {
-    let mut line = Line {
-        call: b'c',
-        literals: [0; 4096],
-        count: 0,
-        number: 0,
-        minus: false,
-        digits: false,
-    };
-    let mut score = Score {
-        yes: 0,
-        no: 0,
-        refused: 0,
-    };
-    for b in text {
-        line.feed(*b);
-        if *b == b'\n' {
-            score = call(chooser, &line, score);
-            line.count = 0;
+fn play<C: Chooser>(heap: Global, chooser: &mut C, text: &str) -> Result<Score, AllocError> {
+    let mut values = vec![in heap; 0u8; MOST_VARIABLES]?;
+    let mut literals = Vec::new(heap);
+    let mut score = Score::default();
+    for line in text.lines() {
+        let mut words = line.split_whitespace();
+        let call = words.next().unwrap_or("");
+        match call {
+            "v" => score.took(allot(chooser, words)),
+            "a" => {
+                read_literals(words, &mut literals)?;
+                score.took(chooser.add(literals.as_slice()));
+            }
+            "q" => {
+                read_literals(words, &mut literals)?;
+                score.answered(ask(chooser, literals.as_slice(), values.as_mut_slice()));
+            }
+            _ => {}
         }
     }
-    score
+    Ok(score)
 }
 
 fn report<C: Chooser>(
     rt: &HostRuntime,
     chooser: &mut C,
     path: &str,
-    text: &[u8],
-) -> io::Result<()> {
+    text: &str,
+) -> anyhow::Result<()> {
     let start = Instant::now(rt)?;
-    let score = play(chooser, text);
+    let score = play(rt.alloc(), chooser, text)?;
     let took = start.elapsed(rt)?.as_micros();
-    let Score { yes, no, refused } = score;
     eprintln!(rt; "{took} {path}")?;
-    println!(rt; "{path} yes {yes} no {no} refused {refused}")
+    println!(rt; "{path} {score}")?;
+    Ok(())
 }
 
 fn run(rt: &HostRuntime) -> anyhow::Result<()> {
-    let mut plain = false;
-    let mut args = env::args(rt)?;
-    let _program = args.next();
-    for word in args {
+    let mut kind = Kind::Learning;
+    for word in env::args(rt)?.skip(1) {
         match word.as_str() {
-            "plain" => plain = true,
-            "learning" => plain = false,
+            "plain" => kind = Kind::Plain,
+            "learning" => kind = Kind::Learning,
             path => {
-                let text = fs::read(rt, path)?;
-                if plain {
-                    let Ok(mut chooser) = Plain::new(rt.alloc(), ENTRIES) else {
-                        return Err(anyhow!("no memory"));
-                    };
-                    report(rt, &mut chooser, path, text.as_slice())?;
-                } else {
-                    let Ok(mut chooser) = Learning::new(rt.alloc(), ENTRIES) else {
-                        return Err(anyhow!("no memory"));
-                    };
-                    report(rt, &mut chooser, path, text.as_slice())?;
+                let text = fs::read_to_string(rt, path)?;
+                match kind {
+                    Kind::Plain => {
+                        let mut chooser = Plain::new(rt.alloc(), ENTRIES)?;
+                        report(rt, &mut chooser, path, text.as_str())?;
+                    }
+                    Kind::Learning => {
+                        let mut chooser = Learning::new(rt.alloc(), ENTRIES)?;
+                        report(rt, &mut chooser, path, text.as_str())?;
+                    }
                 }
             }
         }

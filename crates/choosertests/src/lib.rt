@@ -9,30 +9,14 @@ mod tests {
     use std::process::Abort;
     use std::test::Fail;
 
-    // The refusal's number, or 0.
-    fn refusal<T: Drop>(r: Result<T, Fault>) -> u8 {
-        match r {
-            Ok(_) => 0,
-            Err(e) => e.number(),
-        }
-    }
-
-    fn says(r: Result<Answer, Fault>, yes: bool) -> bool {
-        match r {
-            Ok(Answer::Yes) => yes,
-            Ok(Answer::No) => !yes,
-            Err(_) => false,
-        }
+    // The refusal's number, if the call was refused.
+    fn refusal<T: Drop>(r: Result<T, Fault>) -> Option<u8> {
+        Some(r.err()?.number())
     }
 
     fn allot<C: Chooser>(rt: &impl Abort, c: &mut C, n: u16) {
         for i in 0..n {
-            assert!(rt;
-                match c.new_variable() {
-                    Ok(v) => v == i,
-                    Err(_) => false,
-                }
-            );
+            assert_eq!(rt; c.new_variable(), Ok(i));
         }
     }
 
@@ -40,26 +24,26 @@ mod tests {
     fn all_variables<C: Chooser>(rt: &impl Abort, c: &mut C) {
         allot(rt, c, 4096);
         assert_eq!(rt; c.variables_left(), 0);
-        assert_eq!(rt; refusal(c.new_variable()), 61);
-        assert_eq!(rt; refusal(c.add(&[8191])), 0);
-        assert_eq!(rt; refusal(c.add(&[8192])), 62);
+        assert_eq!(rt; refusal(c.new_variable()), Some(61));
+        assert_eq!(rt; refusal(c.add(&[8191])), None);
+        assert_eq!(rt; refusal(c.add(&[8192])), Some(62));
         let mut answer = [2u8; 4096];
-        assert!(rt; says(c.ask(&[8190], &mut answer), false));
-        assert!(rt; says(c.ask(&[], &mut answer), true));
+        assert_eq!(rt; c.ask(&[8190], &mut answer), Ok(Answer::No));
+        assert_eq!(rt; c.ask(&[], &mut answer), Ok(Answer::Yes));
         assert_eq!(rt; answer[4095], 0);
     }
 
     // A chooser of five entries.
     fn five_entries<C: Chooser>(rt: &impl Abort, c: &mut C) {
         assert_eq!(rt; c.entries_left(), 5);
-        assert_eq!(rt; refusal(c.add(&[0])), 62);
+        assert_eq!(rt; refusal(c.add(&[0])), Some(62));
         allot(rt, c, 3);
-        assert_eq!(rt; refusal(c.add(&[0, 2, 4, 1, 3])), 63);
-        assert_eq!(rt; refusal(c.add(&[6, 0, 0, 0, 0])), 62);
+        assert_eq!(rt; refusal(c.add(&[0, 2, 4, 1, 3])), Some(63));
+        assert_eq!(rt; refusal(c.add(&[6, 0, 0, 0, 0])), Some(62));
         assert_eq!(rt; c.entries_left(), 5);
-        assert_eq!(rt; refusal(c.add(&[0, 2, 4, 1])), 0);
+        assert_eq!(rt; refusal(c.add(&[0, 2, 4, 1])), None);
         assert_eq!(rt; c.entries_left(), 0);
-        assert_eq!(rt; refusal(c.add(&[])), 63);
+        assert_eq!(rt; refusal(c.add(&[])), Some(63));
     }
 
     // Answers one too short and one too long, which are left as they were.
@@ -67,23 +51,23 @@ mod tests {
         allot(rt, c, 2);
         let mut short = [7u8; 1];
         let mut long = [7u8; 3];
-        assert_eq!(rt; refusal(c.ask(&[4], &mut short)), 62);
-        assert_eq!(rt; refusal(c.ask(&[3], &mut short)), 64);
-        assert_eq!(rt; refusal(c.ask(&[3], &mut long)), 64);
-        assert!(rt; short[0] == 7 && long[0] == 7 && long[1] == 7);
+        assert_eq!(rt; refusal(c.ask(&[4], &mut short)), Some(62));
+        assert_eq!(rt; refusal(c.ask(&[3], &mut short)), Some(64));
+        assert_eq!(rt; refusal(c.ask(&[3], &mut long)), Some(64));
+        assert_eq!(rt; (short, long), ([7], [7, 7, 7]));
     }
 
     // One clause, two assumptions, and at last the empty clause.
     fn answers<C: Chooser>(rt: &impl Abort, c: &mut C) {
-        assert!(rt; says(c.ask(&[], &mut []), true));
+        assert_eq!(rt; c.ask(&[], &mut []), Ok(Answer::Yes));
         allot(rt, c, 2);
-        assert_eq!(rt; refusal(c.add(&[0, 2])), 0);
+        assert_eq!(rt; refusal(c.add(&[0, 2])), None);
         let mut answer = [7u8; 2];
-        assert!(rt; says(c.ask(&[3], &mut answer), true));
-        assert!(rt; answer[0] == 1 && answer[1] == 0);
-        assert!(rt; says(c.ask(&[3, 1], &mut answer), false));
-        assert_eq!(rt; refusal(c.add(&[])), 0);
-        assert!(rt; says(c.ask(&[], &mut answer), false));
+        assert_eq!(rt; c.ask(&[3], &mut answer), Ok(Answer::Yes));
+        assert_eq!(rt; answer, [1, 0]);
+        assert_eq!(rt; c.ask(&[3, 1], &mut answer), Ok(Answer::No));
+        assert_eq!(rt; refusal(c.add(&[])), None);
+        assert_eq!(rt; c.ask(&[], &mut answer), Ok(Answer::No));
     }
 
     #[test]

@@ -6,7 +6,7 @@ ghost use Rattle.rows.specs.Rows.{inside};
 ghost use Rattle.decide.specs.Decided.{Taken, Narrowed, Accepted, Decided};
 
 use chooser::{Answer, Chooser, Fault};
-use rows::is_whole;
+use rows::{ClauseIter, is_whole};
 
 // Allots so many variables.
 fn allot<C: Chooser>(chooser: &mut C, variables: u16) -> Result<(), Fault>
@@ -25,11 +25,8 @@ fn add_row<C: Chooser>(chooser: &mut C, row: &[u16]) -> Result<(), Fault>
     requires fits { length row.now ≤ (C.meaning chooser.old).left }
     ensures { Accepted (Narrowed (C.meaning chooser.old) (C.meaning chooser.new) row.now) result }
 {
-    let mut at = 0;
-    while at < row.len() {
-        let end = at + 1 + row[at] as usize;
-        chooser.add(&row[at + 1..end])?;
-        at = end;
+    for clause in ClauseIter::new(row) {
+        chooser.add(clause)?;
     }
     Ok(())
 }

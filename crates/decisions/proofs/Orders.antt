@@ -1,53 +1,81 @@
 -- The order of decisions is kept as the trail grows, is cut and is pushed to; and while an assumption is not yet on it, every
 -- decision is an assumption, so that an assumption that is false there leaves no way.
-use Rattle.std.proofs.Common.{◌≡◌, ℕ, zero, suc, ◌+◌, ◌<◌, ◌≤◌, Bool, true, ◌&&◌, ◌⊎◌, List, length, get_or, set, sym, ap, ◌∙◌, subst, inl, inr, ⊎_elim, arith, get_or-set_other, get_or-set_same}
+use Rattle.std.proofs.Common.{◌≡◌, ℕ, zero, suc, ◌+◌, ◌<◌, ◌≤◌, Bool, true, ◌&&◌, ◌⊎◌, List, [], ◌∷◌, ◌++◌, length, get_or, take, ◌≢◌, sym, refl, ap, ◌∙◌, subst, inl, inr, ⊎_elim, arith, length-append}
 use Rattle.std.proofs.lemmas.Bool.{both_ways, cases_eq, cases_lt, and_parts}
+use Rattle.std.proofs.lemmas.List.{length-take-le}
 use Rattle.chooser.specs.Ways.{lit, every}
 use Rattle.rows.proofs.Lits.{false_from, every_at}
 use Rattle.implied.specs.Implied.{allowed}
-use Rattle.trail.specs.Trails.{Along, Refuted, Sound, Grew}
+use Rattle.trail.specs.declared.step.Step.{Step}
+use Rattle.trail.specs.declared.step.Reason.{Reason}
+use Rattle.trail.specs.declared.step.Reason.TheVariants.{Decision, Known, Clause}
+use Rattle.trail.specs.declared.step.Value.{Value}
+use Rattle.trail.specs.declared.search.Search.{Search}
+use Rattle.trail.specs.Trails.{step_at, literal_at, Along, Sound, Grew}
+use Rattle.trail.specs.Values.{Refuted}
 use Rattle.trail.specs.Steps.{Placed}
-use Rattle.trail.specs.declared.kept.Trail.{Trail}
-use Rattle.trail.proofs.Sounds.{refuted_off}
-use Rattle.decisions.specs.Plans.{Among, Ordered, Barred}
+use Rattle.trail.proofs.Sounds.{refuted_off, step_old, step_new, step_taken}
+use Rattle.decisions.specs.Plans.{Among, Forced, Ordered, Barred}
 
-pub ordered_none : (given lits marks : List ℕ) (d : ℕ) → ((j : ℕ) → j < d → get_or marks j 0 ≡ 2) → Ordered given lits marks d 0 0
-ordered_none given lits marks d forced =
+pub ordered_none : (given : List ℕ) (steps : List Step) → Forced steps → Ordered given steps 0 0
+ordered_none given steps forced =
     record {
       before = omega arith;
       few = omega arith;
       assumed = λ i lt. let z : ⊥ = omega arith in absurd z;
-      decided = λ j lt one. let two = forced j lt in let z : ⊥ = omega arith in absurd z;
+      decided = λ j lt one. absurd (forced j (record { literal = 0; level = 0; reason = Known }) lt one);
     }
 
-module _ (given lits marks : List ℕ) (d next firm : ℕ) (o : Ordered given lits marks d next firm) where
-  pub ordered_grew : (lits' marks' : List ℕ) (d' : ℕ) → Grew marks lits d marks' lits' d' → Ordered given lits' marks' d' next firm
-  ordered_grew lits' marks' d' g =
+module _ (given : List ℕ) (steps : List Step) (next firm : ℕ) (o : Ordered given steps next firm) where
+  pub ordered_grew : (steps' : List Step) → Grew steps steps' → Ordered given steps' next firm
+  ordered_grew steps' g =
       let before = o.before in
       let more = g.more in
       record {
         before = omega arith;
         few = o.few;
-        assumed = λ i lt. let w = o.assumed i lt in let less : w.0 < firm = w.1 in (w.0, less, g.same_lits w.0 (omega arith) ∙ w.2);
+        assumed = λ i lt. let w = o.assumed i lt in let less : w.0 < firm = w.1 in (w.0, less, ap (λ (s : Step). s.literal) (g.same w.0 (omega arith)) ∙ w.2);
         decided = λ j lt one. ⊎_elim
-            (λ less. ⊎_elim (λ a. inl (a.0, a.1, g.same_lits j less ∙ a.2)) (λ b. inr b) (o.decided j less (sym (g.same_marks j less) ∙ one)))
-            (λ ge. let two = g.forced j ge lt in let z : ⊥ = omega arith in absurd z)
-            (cases_lt j d);
+            (λ less.
+            let same = g.same j less in
+            ⊎_elim (λ a. inl (a.0, a.1, ap (λ (s : Step). s.literal) same ∙ a.2)) (λ b. inr b) (o.decided j less (ap (λ (s : Step). s.reason) (sym same) ∙ one)))
+            (λ ge. absurd (g.forced j ge lt one))
+            (cases_lt j (length steps));
       }
 
-  pub ordered_cut : (k : ℕ) → k ≤ d → firm ≤ k → Ordered given lits marks k next firm
-  ordered_cut k le behind = record { before = behind; few = o.few; assumed = o.assumed; decided = λ j lt. o.decided j (omega arith) }
+  module _ (k : ℕ) (le : k ≤ length steps) where
+    cut : length (take k steps) ≡ k
+    cut = length-take-le k steps le
 
-  pub ordered_again : (k : ℕ) → k ≤ d → k < firm → Ordered given lits marks k 0 0
-  ordered_again k le early =
-      record {
-        before = omega arith;
-        few = omega arith;
-        assumed = λ i lt. let z : ⊥ = omega arith in absurd z;
-        decided = λ j lt one. ⊎_elim (λ a. inl a) (λ b. let ge : firm ≤ j = b.1 in let z : ⊥ = omega arith in absurd z) (o.decided j (omega arith) one);
-      }
+    kept : (j : ℕ) → j < k → step_at (take k steps) j ≡ step_at steps j
+    kept j lt = step_taken steps k j lt
 
-  pub ordered_more : (i : ℕ) → next < length given → i < d → get_or lits i 0 ≡ get_or given next 0 → Ordered given lits marks d (next + 1) d
+    pub ordered_cut : firm ≤ k → Ordered given (take k steps) next firm
+    ordered_cut behind =
+        let size = cut in
+        record {
+          before = omega arith;
+          few = o.few;
+          assumed = λ i lt. let w = o.assumed i lt in let less : w.0 < firm = w.1 in (w.0, less, ap (λ (s : Step). s.literal) (kept w.0 (omega arith)) ∙ w.2);
+          decided = λ j lt one.
+              let same = kept j (omega arith) in
+              ⊎_elim (λ a. inl (a.0, a.1, ap (λ (s : Step). s.literal) same ∙ a.2)) (λ b. inr b) (o.decided j (omega arith) (ap (λ (s : Step). s.reason) (sym same) ∙ one));
+        }
+
+    pub ordered_again : k < firm → Ordered given (take k steps) 0 0
+    ordered_again early =
+        let size = cut in
+        record {
+          before = omega arith;
+          few = omega arith;
+          assumed = λ i lt. let z : ⊥ = omega arith in absurd z;
+          decided = λ j lt one.
+              let same = kept j (omega arith) in
+              ⊎_elim (λ a. inl (a.0, a.1, ap (λ (s : Step). s.literal) same ∙ a.2)) (λ b. let ge : firm ≤ j = b.1 in let z : ⊥ = omega arith in absurd z)
+              (o.decided j (omega arith) (ap (λ (s : Step). s.reason) (sym same) ∙ one));
+        }
+
+  pub ordered_more : (i : ℕ) → next < length given → i < length steps → literal_at steps i ≡ get_or given next 0 → Ordered given steps (next + 1) (length steps)
   ordered_more i lt on is =
       let before = o.before in
       record {
@@ -60,54 +88,62 @@ module _ (given lits marks : List ℕ) (d next firm : ℕ) (o : Ordered given li
         decided = λ j less one. ⊎_elim (λ a. inl a) (λ b. let all : next ≡ length given = b.0 in let z : ⊥ = omega arith in absurd z) (o.decided j less one);
       }
 
-  pub ordered_push : (l mark : ℕ) → d < length lits → d < length marks → (mark ≡ 2) ⊎ (Among given l ⊎ (next ≡ length given)) → Ordered given (set lits d l) (set marks d mark) (d + 1) next firm
-  ordered_push l mark in-lits in-marks how =
+  pub ordered_push : (st : Step) → (st.reason ≢ Decision) ⊎ (Among given st.literal ⊎ (next ≡ length given)) → Ordered given (steps ++ st ∷ []) next firm
+  ordered_push st how =
       let before = o.before in
+      let long : length (steps ++ st ∷ []) ≡ length steps + 1 = length-append steps (st ∷ []) in
       record {
         before = omega arith;
         few = o.few;
-        assumed = λ i lt. let w = o.assumed i lt in let less : w.0 < firm = w.1 in let ne : w.0 ≡ d → ⊥ = λ e. omega arith in (w.0, less, get_or-set_other lits d w.0 l 0 ne ∙ w.2);
+        assumed = λ i lt. let w = o.assumed i lt in let less : w.0 < firm = w.1 in (w.0, less, ap (λ (s : Step). s.literal) (step_old steps st w.0 (omega arith)) ∙ w.2);
         decided = λ j lt one. ⊎_elim
-            (λ e. let at : get_or (set lits d l) j 0 ≡ l = ap (λ k. get_or (set lits d l) k 0) e ∙ get_or-set_same lits d l 0 in-lits in
-            let mk : get_or (set marks d mark) j 0 ≡ mark = ap (λ k. get_or (set marks d mark) k 0) e ∙ get_or-set_same marks d mark 0 in-marks in
-            ⊎_elim (λ two. let z : ⊥ = omega arith in absurd z) (λ h. ⊎_elim (λ a. inl (a.0, a.1, at ∙ a.2)) (λ all. inr (all, omega arith)) h) how)
-            (λ ne. let less : j < d = omega arith in ⊎_elim (λ a. inl (a.0, a.1, get_or-set_other lits d j l 0 ne ∙ a.2)) (λ b. inr b) (o.decided j less (sym (get_or-set_other marks d j mark 0 ne) ∙ one)))
-            (cases_eq j d);
+            (λ e. let at : step_at (steps ++ st ∷ []) j ≡ st = ap (step_at (steps ++ st ∷ [])) e ∙ step_new steps st in
+            ⊎_elim
+            (λ no. absurd (no (ap (λ (s : Step). s.reason) (sym at) ∙ one)))
+            (λ h. ⊎_elim (λ a. inl (a.0, a.1, ap (λ (s : Step). s.literal) at ∙ a.2)) (λ all. inr (all, omega arith)) h)
+            how)
+            (λ ne. let less : j < length steps = omega arith in
+            let same = step_old steps st j less in
+            ⊎_elim (λ a. inl (a.0, a.1, ap (λ (s : Step). s.literal) same ∙ a.2)) (λ b. inr b) (o.decided j less (ap (λ (s : Step). s.reason) (sym same) ∙ one)))
+            (cases_eq j (length steps));
       }
 
+-- the same at a search that a literal was put on
+pub ordered_placed : (given : List ℕ) (s u : Search) (next firm l : ℕ) (reason : Reason) → Placed s u l reason
+    → (reason ≢ Decision) ⊎ (Among given l ⊎ (next ≡ length given)) → Ordered given s.trail.steps.items next firm → Ordered given u.trail.steps.items next firm
+ordered_placed given s u next firm l reason p how o =
+    subst (λ z. Ordered given z next firm) (sym p.steps) (ordered_push given s.trail.steps.items next firm o (record { literal = l; level = p.level; reason = reason }) how)
+
+is_decision : (r : Reason) → (r ≡ Decision) ⊎ (r ≢ Decision)
+is_decision Decision = inl refl
+is_decision Known = inr (λ e. cc)
+is_decision (Clause c) = inr (λ e. cc)
+
 -- a way that is allowed and meets the assumptions is along the trail
-module _ (X : (ℕ → Bool) → Bool) (val lits marks given : List ℕ) (d next firm : ℕ) (s : Sound X val lits marks d) (o : Ordered given lits marks d next firm) (lt : next < length given) (p : ℕ → Bool) (x : X p ≡ true) (g : every (lit p) given ≡ true) where
-  along_to : (k : ℕ) → k ≤ d → Along p lits k
+module _ (X : (ℕ → Bool) → Bool) (values : List Value) (positions given : List ℕ) (steps : List Step) (next firm : ℕ) (s : Sound X values positions steps) (o : Ordered given steps next firm) (lt : next < length given) (p : ℕ → Bool) (x : X p ≡ true) (g : every (lit p) given ≡ true) where
+  along_to : (k : ℕ) → k ≤ length steps → Along p steps k
   along_to zero le i less = let z : ⊥ = omega arith in absurd z
   along_to (suc k) le i less =
-      let below : Along p lits k = along_to k (omega arith) in
+      let below : Along p steps k = along_to k (omega arith) in
       ⊎_elim
-      (λ e. subst (λ j. lit p (get_or lits j 0) ≡ true) (sym e) (⊎_elim
+      (λ e. subst (λ j. lit p (literal_at steps j) ≡ true) (sym e) (⊎_elim
       (λ one. ⊎_elim
       (λ a. ap (lit p) a.2 ∙ every_at (lit p) given a.0 g a.1)
       (λ b. let all : next ≡ length given = b.0 in let z : ⊥ = omega arith in absurd z)
       (o.decided k (omega arith) one))
       (λ other. s.grounded k (omega arith) other p x below)
-      (cases_eq (get_or marks k 0) 1)))
+      (is_decision (step_at steps k).reason)))
       (λ ne. below i (omega arith))
       (cases_eq i k)
 
-  pub no_way : Refuted val (get_or given next 0) → ⊥
+  pub no_way : Refuted values (get_or given next 0) → ⊥
   no_way f =
       both_ways (lit p (get_or given next 0))
-      (refuted_off X val lits marks d s p (get_or given next 0) (along_to d (omega arith)) f)
+      (refuted_off X values positions steps s p (get_or given next 0) (along_to (length steps) (omega arith)) f)
       (every_at (lit p) given next g lt)
 
-pub barred : (row val lits marks given : List ℕ) (d next firm : ℕ) → Sound (allowed row) val lits marks d → Ordered given lits marks d next firm → next < length given → Refuted val (get_or given next 0) → Barred row given
-barred row val lits marks given d next firm s o lt f p =
-    false_from (allowed row p && every (lit p) given) (λ e. let both = and_parts (allowed row p) (every (lit p) given) e in no_way (allowed row) val lits marks given d next firm s o lt p both.0 both.1 f)
-
--- the same at a trail that a literal was put on
-pub ordered_placed : (given : List ℕ) (t u : Trail) (next firm l mark : ℕ) → length t.lits ≡ 4096 → length t.marks ≡ 4096 → Placed t u l mark
-    → (mark ≡ 2) ⊎ (Among given l ⊎ (next ≡ length given)) → Ordered given t.lits t.marks t.len next firm → Ordered given u.lits u.marks u.len next firm
-ordered_placed given t u next firm l mark long deep p how o =
-    let within = p.within in
-    subst (λ z. Ordered given z u.marks u.len next firm) (sym p.lits)
-    (subst (λ z. Ordered given (set t.lits t.len l) z u.len next firm) (sym p.marks)
-    (subst (λ z. Ordered given (set t.lits t.len l) (set t.marks t.len mark) z next firm) (sym p.more)
-    (ordered_push given t.lits t.marks t.len next firm o l mark (omega arith) (omega arith) how)))
+pub barred : (s : Search) (given : List ℕ) (next firm : ℕ) → Ordered given s.trail.steps.items next firm → next < length given → Refuted s.trail.values (get_or given next 0) → Barred s.facts.store.row.items given
+barred s given next firm o lt f p =
+    let row = s.facts.store.row.items in
+    let t = s.trail in
+    false_from (allowed row p && every (lit p) given) (λ e. let both = and_parts (allowed row p) (every (lit p) given) e in no_way (allowed row) t.values t.positions given t.steps.items next firm s.steady o lt p both.0 both.1 f)

@@ -2,151 +2,125 @@
 // other variables.
 #![tactic(auto)]
 
-ghost use Rattle.std.specs.Prelude.{◌≡◌, ℕ, ◌+◌, ◌<◌, ◌≤◌, Bool, true, false, length, slice_index};
+ghost use Rattle.std.specs.Prelude.{◌≡◌, ℕ, ◌<◌, ◌≤◌, true, length, slice_index, MatchOption};
 ghost use Rattle.chooser.specs.Ways.{allotted};
 ghost use Rattle.rows.specs.Rows.{inside};
-ghost use Rattle.implied.specs.Implied.{allowed, Pool, Off};
-ghost use Rattle.trail.specs.Steps.{Steady};
+ghost use Rattle.trail.specs.Values.{Free};
 ghost use Rattle.activity.specs.Cuts.{Kept};
-ghost use Rattle.decisions.specs.Plans.{Planned, Assumed, Chosen};
+ghost use Rattle.decisions.specs.Plans.{Forced, Planned, Assumed, Chosen};
 
-use activity::{Order, pick, unwind};
-use implied::{at8, at32, fix, turned};
+use activity::{Order, unwind};
+use implied::Facts;
 use outcome::{Next, conclude};
-use propagate::NONE;
-use trail::{Trail, clear, push, value};
+use rows::turned;
+use trail::{Reason, Search, Trail, Value};
 
-mod kept;
+mod plan;
 
-pub use kept::Plan;
+pub use plan::Plan;
+
+// The literals of all variables are below it.
+const LITERALS: u16 = 8192;
 
 // Puts the literals that are known true on an empty trail.
-pub fn begin(row: &[u16], off: &[u8], t: &mut Trail)
-    requires { Off (allowed row.now) off.now }
-    ensures steady { Steady (allowed row.now) t.new }
-    ensures forced { (j : ℕ) → j < t.new.len → slice_index t.new.marks j ≡ 2 }
+pub fn begin(search: &mut Search)
+    ensures facts { search.new.facts ≡ search.old.facts }
+    ensures forced { Forced search.new.trail.steps.items }
 {
-    clear(row, t);
-    for l in 0..8192u16 {
-        put_known(row, off, t, l);
+    search.clear();
+    for l in 0..LITERALS {
+        put_known(search, l);
     }
 }
 
 // Puts the literal on the trail, which has no decision, if its opposite is off.
-fn put_known(row: &[u16], off: &[u8], t: &mut Trail, l: u16)
-    requires offs { Off (allowed row.now) off.now }
-    requires steady { Steady (allowed row.now) t.old }
-    requires forced { (j : ℕ) → j < t.old.len → slice_index t.old.marks j ≡ 2 }
-    ensures steady { Steady (allowed row.now) t.new }
-    ensures forced { (j : ℕ) → j < t.new.len → slice_index t.new.marks j ≡ 2 }
+fn put_known(search: &mut Search, l: u16)
+    requires { Forced search.old.trail.steps.items }
+    ensures facts { search.new.facts ≡ search.old.facts }
+    ensures forced { Forced search.new.trail.steps.items }
 {
-    if at8(off, turned(l) as usize) == 1 {
-        let _ = push(row, t, l, 2, NONE);
+    if search.facts.is_off(turned(l)) {
+        search.push(l, Reason::Known);
+    }
+}
+
+// Marks the literals behind the first `fixed` of the trail known that follow by clauses, as far as these show them.
+fn fix_steps(facts: &mut Facts, trail: &Trail, fixed: usize)
+    ensures { facts.new.store ≡ facts.old.store }
+{
+    for step in trail.steps.iter().skip(fixed) {
+        if let Reason::Clause(c) = step.reason {
+            facts.fix(c, step.literal);
+        }
     }
 }
 
 // Marks the literals of the trail behind the plan's `fixed` known, while nothing is decided.
-pub fn settle(
-    row: &[u16],
-    pool: &[u16],
-    starts: &[u32],
-    count: usize,
-    used: usize,
-    off: &mut [u8],
-    t: &Trail,
-    plan: &mut Plan,
-)
-    requires pools { Pool (allowed row.now) pool.now starts.now count used }
-    requires fits { used ≤ length pool.now }
-    requires offs { Off (allowed row.now) off.old }
-    ensures offs { Off (allowed row.now) off.new }
+pub fn settle(search: &mut Search, plan: &mut Plan)
+    ensures store { search.new.facts.store ≡ search.old.facts.store }
+    ensures trail { search.new.trail ≡ search.old.trail }
     ensures next { plan.new.next ≡ plan.old.next }
     ensures firm { plan.new.firm ≡ plan.old.firm }
 {
-    if t.levels > 0 || t.len > 4096 {
+    if search.trail.levels() > 0 {
         return;
     }
-    for j in plan.fixed..t.len {
-        let l = t.lits[j];
-        fix(
-            row,
-            pool,
-            starts,
-            count,
-            used,
-            off,
-            at32(&t.reason, (l / 2) as usize),
-            l,
-        );
-    }
-    plan.fixed = t.len;
+    fix_steps(&mut search.facts, &search.trail, plan.fixed);
+    plan.fixed = search.trail.steps.len();
 }
 
-// Goes over the assumptions: the first one that is not true is to be decided, and where it is false no way is left. Yes stands
-// for: all are true.
-fn assume(row: &[u16], given: &[u16], t: &Trail, plan: &mut Plan) -> Next
-    requires steady { Steady (allowed row.now) t.now }
+// Goes over the assumptions: the first one that is not true is to be decided, and where it is false no way is left.
+fn assume(search: &Search, given: &[u16], plan: &mut Plan) -> Option<Next>
     requires small { (i : ℕ) → i < length given.now → slice_index given.now i < 8192 }
-    requires planned { Planned given.now t.now plan.old }
-    ensures planned { Planned given.now t.now plan.new }
-    ensures assumed { Assumed row.now given.now t.now plan.new result }
+    requires planned { Planned given.now search.now.trail.steps.items plan.old }
+    ensures planned { Planned given.now search.now.trail.steps.items plan.new }
+    ensures assumed { MatchOption result (plan.new.next ≡ length given.now) (Assumed search.now given.now) }
 {
-    while plan.next < given.len() {
-        let g = given[plan.next];
-        let x = value(t, g);
-        if x == 0 {
-            return Next::No;
+    for g in &given[plan.next..] {
+        match search.trail.value(*g) {
+            Some(Value::True) => {
+                plan.next += 1;
+                plan.firm = search.trail.steps.len();
+            }
+            Some(Value::False) => return Some(Next::No),
+            _ => return Some(Next::Decide(*g)),
         }
-        if x != 1 {
-            return Next::Decide(g);
-        }
-        plan.next += 1;
-        plan.firm = t.len;
     }
-    Next::Yes
+    None
 }
 
 // Chooses what to decide; where nothing is left to decide, holds the values against the clauses.
 pub fn choose(
-    row: &[u16],
+    search: &Search,
     given: &[u16],
-    t: &Trail,
-    o: &mut Order,
+    order: &mut Order,
     plan: &mut Plan,
     out: &mut [u8],
 ) -> Next
-    requires steady { Steady (allowed row.now) t.now }
     requires few { length out.old ≤ 4096 }
-    requires sound { inside (length out.old) 0 row.now ≡ true }
+    requires sound { inside (length out.old) 0 search.now.facts.store.row.items ≡ true }
     requires named { allotted (length out.old) given.now ≡ true }
-    requires planned { Planned given.now t.now plan.old }
-    ensures planned { Planned given.now t.now plan.new }
-    ensures chosen { Chosen row.now given.now t.now plan.new out.new result }
+    requires planned { Planned given.now search.now.trail.steps.items plan.old }
+    ensures planned { Planned given.now search.now.trail.steps.items plan.new }
+    ensures chosen { Chosen search.now given.now plan.new out.new result }
 {
-    match assume(row, given, t, plan) {
-        Next::Yes => {
-            let l = pick(o, t);
-            if l != 65535 {
-                return Next::Decide(l);
-            }
-            conclude(row, given, t, out)
-        }
-        Next::Decide(g) => Next::Decide(g),
-        Next::Clash => Next::Clash,
-        Next::No => Next::No,
+    if let Some(next) = assume(search, given, plan) {
+        return next;
     }
+    if let Some(l) = order.pick(&search.trail) {
+        return Next::Decide(l);
+    }
+    conclude(search, given, out)
 }
 
 // Cuts the trail at the place `k`.
-pub fn cut_back(row: &[u16], given: &[u16], t: &mut Trail, o: &mut Order, plan: &mut Plan, k: usize)
-    requires steady { Steady (allowed row.now) t.old }
-    requires planned { Planned given.now t.old plan.old }
-    requires within { k ≤ t.old.len }
-    ensures steady { Steady (allowed row.now) t.new }
-    ensures planned { Planned given.now t.new plan.new }
-    ensures kept { Kept t.old t.new k }
+pub fn cut_back(search: &mut Search, given: &[u16], order: &mut Order, plan: &mut Plan, k: usize)
+    requires planned { Planned given.now search.old.trail.steps.items plan.old }
+    requires within { k ≤ length search.old.trail.steps.items }
+    ensures planned { Planned given.now search.new.trail.steps.items plan.new }
+    ensures kept { Kept search.old search.new k }
 {
-    unwind(row, t, o, k);
+    unwind(search, order, k);
     plan.queue = k;
     if k < plan.firm {
         plan.next = 0;

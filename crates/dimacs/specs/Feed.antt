@@ -1,5 +1,5 @@
 -- What a text comes to, byte after byte.
-use Rattle.std.specs.Prelude.{ℕ, ◌+◌, ◌-◌, min, false, cond, List, [], ◌∷◌, ◌++◌, length, take, Ok, Err, Result, ◌==◌, nat_lt}
+use Rattle.std.specs.Prelude.{ℕ, ◌+◌, ◌-◌, min, cond, List, [], ◌∷◌, ◌++◌, length, take, count_by, Some, None, Option, Ok, Err, Result, ◌==◌, nat_lt}
 use Rattle.dimacs.specs.declared.fault.Kind.{Kind}
 use Rattle.dimacs.specs.declared.fault.Kind.TheVariants.{NoHeader, TooFewClauses, MissingZero, TooManyEntries}
 use Rattle.dimacs.specs.declared.fault.Fault.{Fault}
@@ -8,7 +8,7 @@ use Rattle.dimacs.specs.declared.step.Stage.{Stage}
 use Rattle.dimacs.specs.declared.step.Stage.TheVariants.{Before, Variables, Clauses, Rest, Body}
 use Rattle.dimacs.specs.declared.step.State.{State}
 use Rattle.dimacs.specs.declared.step.Event.{Event}
-use Rattle.dimacs.specs.declared.step.Event.TheVariants.{Nothing, Literal, Clause}
+use Rattle.dimacs.specs.declared.step.Event.TheVariants.{Literal, Clause}
 use Rattle.dimacs.specs.declared.step.Step.{Step}
 use Rattle.dimacs.specs.Step.{stepped}
 
@@ -19,10 +19,10 @@ pub record Reading : Type 0 where
   pub row : List ℕ
 
 abbrev pub begin : Reading
-begin = record { state = record { mode = Start; stage = Before; variables = 0; clauses = 0; read = 0; negative = false; number = 0 }; clause = []; row = [] }
+begin = record { state = record { mode = Start; stage = Before }; clause = []; row = [] }
 
+-- a literal or a clause is at its end
 abbrev pub act : Reading → State → Event → Result Reading Kind
-act r s Nothing = Ok (record { state = s; clause = r.clause; row = r.row })
 act r s (Literal l) =
     cond (nat_lt (length r.clause) 65535) (Ok (record { state = s; clause = r.clause ++ (l ∷ []); row = r.row })) (Err TooManyEntries)
 act r s Clause =
@@ -30,8 +30,12 @@ act r s Clause =
     (Ok (record { state = s; clause = []; row = r.row ++ (length r.clause ∷ r.clause) }))
     (Err TooManyEntries)
 
+abbrev pub act_on : Reading → State → Option Event → Result Reading Kind
+act_on r s None = Ok (record { state = s; clause = r.clause; row = r.row })
+act_on r s (Some e) = act r s e
+
 abbrev pub acted : Reading → Result Step Kind → Result Reading Kind
-acted r (Ok t) = act r t.state t.event
+acted r (Ok t) = act_on r t.state t.event
 acted r (Err k) = Err k
 
 -- one byte
@@ -60,11 +64,11 @@ pub record Content : Type 0 where
 abbrev pub closed_at : Stage → Reading → Result Content Kind
 closed_at Before r = Err NoHeader
 closed_at Variables r = Err NoHeader
-closed_at Clauses r = Err NoHeader
-closed_at Rest r = Err NoHeader
-closed_at Body r =
+closed_at (Clauses v) r = Err NoHeader
+closed_at (Rest h) r = Err NoHeader
+closed_at (Body h k) r =
     cond (length r.clause == 0)
-    (cond (r.state.read == r.state.clauses) (Ok (record { variables = min r.state.variables 32768; row = r.row })) (Err TooFewClauses))
+    (cond (k == h.clauses) (Ok (record { variables = min h.variables 32768; row = r.row })) (Err TooFewClauses))
     (Err MissingZero)
 
 -- the text is at its end
@@ -72,8 +76,7 @@ abbrev pub closed : Reading → Result Content Kind
 closed r = closed_at r.state.stage r
 
 abbrev pub newlines : List ℕ → ℕ
-newlines [] = 0
-newlines (b ∷ bs) = cond (b == 10) 1 0 + newlines bs
+newlines bs = count_by (λ b. b == 10) bs
 
 -- the line in which the byte at a place stands
 abbrev pub line_of : List ℕ → ℕ → ℕ

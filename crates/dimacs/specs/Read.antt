@@ -1,5 +1,5 @@
 -- What reading a text promises.
-use Rattle.std.specs.Prelude.{◌≡◌, ℕ, List, Some, None, Ok, Err, vec_items, Option, Result}
+use Rattle.std.specs.Prelude.{◌≡◌, ℕ, List, Ok, Err, vec_items, Result}
 use Rattle.dimacs.specs.declared.fault.Kind.{Kind}
 use Rattle.dimacs.specs.declared.fault.ReadError.{ReadError}
 use Rattle.dimacs.specs.declared.fault.ReadError.TheVariants.{NoMemory, Bad}
@@ -7,14 +7,10 @@ use Rattle.dimacs.specs.declared.formula.Formula.{Formula}
 use Rattle.dimacs.specs.declared.reader.Reader.{Reader}
 use Rattle.dimacs.specs.declared.step.State.{State}
 use Rattle.dimacs.specs.declared.step.Event.{Event}
-use Rattle.dimacs.specs.Feed.{Reading, Content, begin, act, fed, closed, fault_at, content}
+use Rattle.dimacs.specs.Feed.{Reading, Content, act, fed, closed, fault_at, content}
 
 abbrev pub reading : Reader → Reading
 reading s = record { state = s.state; clause = vec_items s.clause; row = vec_items s.row }
-
-abbrev pub New : Option Reader → Type 0
-New None = Unit {0}
-New (Some s) = reading s ≡ begin
 
 -- whatever state the byte leads to
 abbrev pub Put : {U : Type 0} → Reading → Event → Reading → Result U Kind → Type 0

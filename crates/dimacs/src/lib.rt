@@ -26,13 +26,7 @@ fn line_at(text: &[u8], at: usize) -> usize
     requires { at ≤ length text.now - 1 }
     ensures { result ≡ line_of text.now at }
 {
-    let mut line = 1;
-    for b in &text[..at] {
-        if *b == NEWLINE {
-            line += 1;
-        }
-    }
-    line
+    text[..at].iter().filter(|b| **b == NEWLINE).count() + 1
 }
 
 fn bad(text: &[u8], at: usize, kind: Kind) -> ReadError
@@ -49,22 +43,13 @@ fn bad(text: &[u8], at: usize, kind: Kind) -> ReadError
 pub fn read(heap: Global, text: &[u8]) -> Result<Formula, ReadError>
     ensures { Reads text.now result }
 {
-    let Some(mut reader) = Reader::new(heap) else {
-        return Err(ReadError::NoMemory);
-    };
+    let mut reader = Reader::new(heap)?;
     for (i, b) in text.iter().enumerate() {
-        if let Err(kind) = reader.feed(*b) {
-            return Err(bad(text, i, kind));
-        }
+        reader.feed(*b).map_err(|kind| bad(text, i, kind))?;
     }
     let last = text.len().saturating_sub(1);
-    if let Err(kind) = reader.feed(NEWLINE) {
-        return Err(bad(text, last, kind));
-    }
-    match reader.finish() {
-        Ok(formula) => Ok(formula),
-        Err(kind) => Err(bad(text, last, kind)),
-    }
+    reader.feed(NEWLINE).map_err(|kind| bad(text, last, kind))?;
+    reader.finish().map_err(|kind| bad(text, last, kind))
 }
 
 // Shows that a text which spells a formula, its numbers by digits and a clause on each line, is read as that formula.
@@ -75,6 +60,7 @@ pub fn spelled_stands() -> u8
 }
 
 // Returns the number by which a text calls the literal that is true where a variable has a value.
+// Kept as it is: the value is a byte of a chooser's answer, which the caller lends, and a `bool` would take fewer values.
 pub fn true_literal(variable: u16, value: u8) -> i32
     ensures { result ≡ (if nat_eq value 1 then pos (variable + 1) else negsuc variable) }
 {

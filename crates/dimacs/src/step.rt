@@ -1,6 +1,6 @@
 // What one byte of the text does.
-ghost use Rattle.std.specs.Prelude.{◌≡◌};
-ghost use Rattle.dimacs.specs.Step.{blank, digit, still, mode_behind, begun, line_begun, gapped, item, ended, numbered, expected, stepped};
+ghost use Rattle.std.specs.Prelude.{◌≡◌, ◌-◌, ◌≤◌};
+ghost use Rattle.dimacs.specs.Step.{blank, still, to_mode, to_number, mode_behind, begun, line_begun, gapped, item, ended, numbered, expected, stepped};
 
 use crate::fault::Kind;
 
@@ -22,7 +22,22 @@ pub(crate) enum Mode {
     Gap,
     // Behind a minus.
     Sign,
-    Number,
+    // Behind a digit, with the number so far.
+    Digits(Number),
+}
+
+// A number that is being read.
+#[derive(Clone, Copy)]
+pub(crate) struct Number {
+    pub(crate) negative: bool,
+    // Exact up to a million.
+    pub(crate) value: u32,
+}
+
+#[derive(Clone, Copy)]
+pub(crate) struct Header {
+    pub(crate) variables: u32,
+    pub(crate) clauses: u32,
 }
 
 // How far the header was read.
@@ -30,30 +45,22 @@ pub(crate) enum Mode {
 pub(crate) enum Stage {
     Before,
     Variables,
-    Clauses,
+    Clauses { variables: u32 },
     // The rest of the header's line.
-    Rest,
-    Body,
+    Rest(Header),
+    // Behind the header, with how many clauses were ended.
+    Body { header: Header, read: u32 },
 }
 
 #[derive(Clone, Copy)]
 pub(crate) struct State {
     pub(crate) mode: Mode,
     pub(crate) stage: Stage,
-    // The header's numbers.
-    pub(crate) variables: u32,
-    pub(crate) clauses: u32,
-    // How many clauses were ended.
-    pub(crate) read: u32,
-    // The number that is being read. It is exact up to a million.
-    pub(crate) negative: bool,
-    pub(crate) number: u32,
 }
 
 // What a byte brings to its end.
 #[derive(Clone, Copy)]
 pub(crate) enum Event {
-    Nothing,
     Literal(u16),
     Clause,
 }
@@ -61,7 +68,7 @@ pub(crate) enum Event {
 #[derive(Clone, Copy)]
 pub(crate) struct Step {
     pub(crate) state: State,
-    pub(crate) event: Event,
+    pub(crate) event: Option<Event>,
 }
 
 // The literals of more variables do not fit in 16 bits.
@@ -70,22 +77,34 @@ const MOST_VARIABLES: u32 = 32768;
 fn is_blank(b: u8) -> bool
     ensures { result ≡ blank b }
 {
-    b == b' ' || b == b'\t' || b == b'\r'
+    matches!(b, b' ' | b'\t' | b'\r')
 }
 
-fn is_digit(b: u8) -> bool
-    ensures { result ≡ digit b }
-{
-    b >= b'0' && b <= b'9'
-}
-
+// Nothing is at its end.
 fn quiet(state: State) -> Result<Step, Kind>
     ensures { result ≡ still state }
 {
-    Ok(Step {
-        state,
-        event: Event::Nothing,
-    })
+    Ok(Step { state, event: None })
+}
+
+fn enter(s: State, mode: Mode) -> Result<Step, Kind>
+    ensures { result ≡ still (to_mode s mode) }
+{
+    quiet(State { mode, ..s })
+}
+
+// The first digit of a number.
+fn first(s: State, negative: bool, digit: u8) -> Result<Step, Kind>
+    requires { 48 ≤ digit }
+    ensures { result ≡ still (to_number s negative (digit - 48)) }
+{
+    enter(
+        s,
+        Mode::Digits(Number {
+            negative,
+            value: (digit - b'0') as u32,
+        }),
+    )
 }
 
 // The mode behind a number: a newline ends the line too.
@@ -99,20 +118,12 @@ fn behind(newline: bool) -> Mode
 fn begin(s: State, b: u8) -> Result<Step, Kind>
     ensures { result ≡ begun s b }
 {
-    if is_digit(b) {
-        return quiet(State {
-            mode: Mode::Number,
-            negative: false,
-            number: (b - b'0') as u32,
-            ..s
-        });
+    if b.is_ascii_digit() {
+        return first(s, false, b);
     }
     match s.stage {
-        Stage::Body => if b == b'-' {
-            quiet(State {
-                mode: Mode::Sign,
-                ..s
-            })
+        Stage::Body { .. } => if b == b'-' {
+            enter(s, Mode::Sign)
         } else {
             Err(Kind::Garbage)
         },
@@ -128,22 +139,16 @@ fn begin_line(s: State, b: u8) -> Result<Step, Kind>
         return quiet(s);
     }
     if b == b'c' {
-        return quiet(State {
-            mode: Mode::Comment,
-            ..s
-        });
+        return enter(s, Mode::Comment);
     }
     match s.stage {
-        Stage::Body => if b == b'%' {
-            quiet(State {
-                mode: Mode::Ended,
-                ..s
-            })
+        Stage::Body { .. } => if b == b'%' {
+            enter(s, Mode::Ended)
         } else {
             begin(s, b)
         },
         _ => if b == b'p' {
-            quiet(State { mode: Mode::P, ..s })
+            enter(s, Mode::P)
         } else {
             Err(Kind::NoHeader)
         },
@@ -158,19 +163,15 @@ fn gap(s: State, b: u8) -> Result<Step, Kind>
         return quiet(s);
     }
     match s.stage {
-        Stage::Body => if b == b'\n' {
-            quiet(State {
-                mode: Mode::Start,
-                ..s
-            })
+        Stage::Body { .. } => if b == b'\n' {
+            enter(s, Mode::Start)
         } else {
             begin(s, b)
         },
-        Stage::Rest => if b == b'\n' {
+        Stage::Rest(header) => if b == b'\n' {
             quiet(State {
                 mode: Mode::Start,
-                stage: Stage::Body,
-                ..s
+                stage: Stage::Body { header, read: 0 },
             })
         } else {
             Err(Kind::BadHeader)
@@ -179,65 +180,73 @@ fn gap(s: State, b: u8) -> Result<Step, Kind>
     }
 }
 
-// A number of a clause is ended.
-fn end_item(s: State, newline: bool) -> Result<Step, Kind>
-    ensures { result ≡ item s newline }
+// A number of a clause is ended, behind so many clauses.
+fn end_item(header: Header, read: u32, n: Number, newline: bool) -> Result<Step, Kind>
+    ensures { result ≡ item header read n newline }
 {
-    let mode = behind(newline);
-    if s.number > s.variables.min(MOST_VARIABLES) {
+    if n.value > header.variables.min(MOST_VARIABLES) {
         return Err(Kind::OutOfRange);
     }
-    if s.number > 0 {
-        let l = 2 * (s.number - 1) as u16;
-        let l = if s.negative { l + 1 } else { l };
+    if n.value > 0 {
+        let l = 2 * (n.value - 1) as u16;
+        let l = if n.negative { l + 1 } else { l };
         return Ok(Step {
-            state: State { mode, ..s },
-            event: Event::Literal(l),
+            state: State {
+                mode: behind(newline),
+                stage: Stage::Body { header, read },
+            },
+            event: Some(Event::Literal(l)),
         });
     }
-    if s.negative {
+    if n.negative {
         return Err(Kind::Garbage);
     }
-    if s.read >= s.clauses {
+    if read >= header.clauses {
         return Err(Kind::TooManyClauses);
     }
     Ok(Step {
         state: State {
-            mode,
-            read: s.read + 1,
-            ..s
+            mode: behind(newline),
+            stage: Stage::Body {
+                header,
+                read: read + 1,
+            },
         },
-        event: Event::Clause,
+        event: Some(Event::Clause),
     })
 }
 
 // A number is ended.
-fn end_number(s: State, newline: bool) -> Result<Step, Kind>
-    ensures { result ≡ ended s newline }
+fn end_number(stage: Stage, n: Number, newline: bool) -> Result<Step, Kind>
+    ensures { result ≡ ended stage n newline }
 {
-    match s.stage {
-        Stage::Body => end_item(s, newline),
+    match stage {
+        Stage::Body { header, read } => end_item(header, read, n, newline),
         Stage::Variables => {
             if newline {
                 return Err(Kind::BadHeader);
             }
-            if s.number > MOST_VARIABLES {
+            if n.value > MOST_VARIABLES {
                 return Err(Kind::TooManyVariables);
             }
             quiet(State {
                 mode: Mode::Gap,
-                stage: Stage::Clauses,
-                variables: s.number,
-                ..s
+                stage: Stage::Clauses { variables: n.value },
             })
         }
-        Stage::Clauses => {
-            let stage = if newline { Stage::Body } else { Stage::Rest };
+        Stage::Clauses { variables } => {
+            let header = Header {
+                variables,
+                clauses: n.value,
+            };
+            let stage = if newline {
+                Stage::Body { header, read: 0 }
+            } else {
+                Stage::Rest(header)
+            };
             quiet(State {
                 mode: behind(newline),
                 stage,
-                clauses: s.number,
-                ..s
             })
         }
         _ => Err(Kind::BadHeader),
@@ -245,20 +254,18 @@ fn end_number(s: State, newline: bool) -> Result<Step, Kind>
 }
 
 // A byte behind a digit.
-fn number(s: State, b: u8) -> Result<Step, Kind>
-    ensures { result ≡ numbered s b }
+fn go_on(s: State, n: Number, b: u8) -> Result<Step, Kind>
+    ensures { result ≡ numbered s n b }
 {
-    if is_digit(b) {
-        return quiet(State {
-            number: s.number.min(100000) * 10 + (b - b'0') as u32,
-            ..s
-        });
+    if b.is_ascii_digit() {
+        let value = n.value.min(100000) * 10 + (b - b'0') as u32;
+        return enter(s, Mode::Digits(Number { value, ..n }));
     }
     if is_blank(b) {
-        return end_number(s, false);
+        return end_number(s.stage, n, false);
     }
     if b == b'\n' {
-        return end_number(s, true);
+        return end_number(s.stage, n, true);
     }
     Err(Kind::Garbage)
 }
@@ -268,22 +275,21 @@ fn expect(s: State, wanted: bool, mode: Mode) -> Result<Step, Kind>
     ensures { result ≡ expected s wanted mode }
 {
     if wanted {
-        quiet(State { mode, ..s })
+        enter(s, mode)
     } else {
         Err(Kind::BadHeader)
     }
 }
 
+// Kept as it is: the mode says what a byte means, so that the reader is a machine of one byte after another, and the theorem about
+// spelled texts goes along it byte for byte; text that is split into words would have to be held.
 pub(crate) fn advance(s: State, b: u8) -> Result<Step, Kind>
     ensures { result ≡ stepped s b }
 {
     match s.mode {
         Mode::Start => begin_line(s, b),
         Mode::Comment => if b == b'\n' {
-            quiet(State {
-                mode: Mode::Start,
-                ..s
-            })
+            enter(s, Mode::Start)
         } else {
             quiet(s)
         },
@@ -306,17 +312,12 @@ pub(crate) fn advance(s: State, b: u8) -> Result<Step, Kind>
         ),
         Mode::Gap => gap(s, b),
         Mode::Sign => {
-            if is_digit(b) {
-                quiet(State {
-                    mode: Mode::Number,
-                    negative: true,
-                    number: (b - b'0') as u32,
-                    ..s
-                })
+            if b.is_ascii_digit() {
+                first(s, true, b)
             } else {
                 Err(Kind::Garbage)
             }
         }
-        Mode::Number => number(s, b),
+        Mode::Digits(n) => go_on(s, n, b),
     }
 }

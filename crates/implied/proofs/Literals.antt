@@ -1,8 +1,8 @@
--- A literal and its opposite: exactly one of them is true at each way. A clause that is met has a literal that is true.
-use Rattle.std.proofs.Common.{◌≡◌, ℕ, zero, suc, ◌/◌, ◌%◌, ◌<◌, Bool, true, false, not, eqb, List, [], ◌∷◌, length, sym, refl, ap, ◌∙◌, ⊎_elim, arith}
-use Rattle.std.proofs.lemmas.Bool.{both_ways, or_cases, cases_eq, cond-true, cond-false, eq-eqb, ne_eqb}
-use Rattle.chooser.specs.Ways.{lit, some}
-use Rattle.implied.specs.Implied.{Turned, Held}
+-- A literal and its opposite: exactly one of them is true at each way.
+use Rattle.std.proofs.Common.{◌≡◌, ℕ, ◌/◌, ◌%◌, Bool, true, false, not, eqb, sym, refl, ap, ◌∙◌, ⊎_elim, arith}
+use Rattle.std.proofs.lemmas.Bool.{cases_eq, cond-true, cond-false, eq-eqb, ne_eqb}
+use Rattle.chooser.specs.Ways.{lit}
+use Rattle.rows.specs.Lits.{Turned}
 
 lit_even : (p : ℕ → Bool) (l : ℕ) → l % 2 ≡ 0 → lit p l ≡ p (l / 2)
 lit_even p l e = cond-true (eqb (l % 2) 0) (p (l / 2)) (not (p (l / 2))) (eq-eqb (l % 2) 0 e)
@@ -31,9 +31,3 @@ lit_on p a b t e = opposite p a b t ∙ ap not e
 
 pub turned_back : (a b : ℕ) → Turned a b → Turned b a
 turned_back a b t = (sym t.0, λ e. t.1 (sym e))
-
--- a clause that is met has a literal that is true
-pub held_some : (p : ℕ → Bool) (c : List ℕ) → some (lit p) c ≡ true → Held p c (length c)
-held_some p [] e = absurd (both_ways false refl e)
-held_some p (x ∷ xs) e =
-    ⊎_elim (λ on. (zero, omega arith, on)) (λ later. let w = held_some p xs later in let h : w.0 < length xs = w.1 in (suc w.0, omega arith, w.2)) (or_cases (lit p x) (some (lit p) xs) e)

@@ -1,22 +1,15 @@
--- What a learning chooser means, the laws of that, and what a clause spends.
-use Rattle.std.specs.Prelude.{◌≡◌, ℕ, ◌+◌, List, length, Ok, Err, vec_items, Result}
-use Rattle.std.proofs.Common.{arith}
+-- What a learning chooser means, and the laws of that.
 use Rattle.chooser.specs.Meaning.{Meaning, Lawful}
-use Rattle.chooser.specs.declared.Fault.{Fault}
-use Rattle.rows.specs.Meant.{meant}
-use Rattle.rows.proofs.Meant.{meant_local}
+use Rattle.rows.specs.Store.{store_means}
+use Rattle.rows.proofs.Meant.{store_laws}
 use Rattle.learning.specs.declared.learning.Learning.{Learning}
 
 abbrev pub learning_means : Learning → Meaning
-learning_means s = meant (vec_items s.row) s.entries 4096 s.count
+learning_means s = store_means s.solver.search.facts.store
 
 pub learning_laws : Lawful learning_means 4096
 learning_laws = record {
-  local = λ s. meant_local (vec_items s.row) s.entries 4096 s.count s.whole;
-  whole = λ s. let h = s.few in omega arith;
-  small = omega arith;
+  local = λ s. store_laws.local s.solver.search.facts.store;
+  whole = λ s. store_laws.whole s.solver.search.facts.store;
+  small = store_laws.small;
 }
-
-abbrev pub Spent : {U : Type 0} → Meaning → Meaning → List ℕ → Result U Fault → Type 0
-Spent s t clause (Ok u) = t.left + (length clause + 1) ≡ s.left
-Spent s t clause (Err e) = t.left ≡ s.left

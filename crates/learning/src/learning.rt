@@ -1,51 +1,96 @@
-ghost use Rattle.std.specs.Prelude.{◌≡◌, ℕ, ◌≤◌, true, vec_len, vec_capacity};
-ghost use Rattle.rows.specs.Rows.{inside};
-ghost use Rattle.implied.specs.Implied.{allowed};
+ghost use Rattle.std.specs.Prelude.{◌≡◌, true};
 ghost use Rattle.cdcl_steps.specs.Search.{Empty};
-ghost use Rattle.learning.specs.Lasting.{Lying, Lasting, KnownOff};
 
-use activity::Order;
-use cdcl_steps::Tally;
-use propagate::Watches;
-use trail::Trail;
+use cdcl::{Outcome, run};
+use cdcl_steps::Solver;
+use chooser::{Answer, Chooser, Fault, MakeFault};
+use rows::{ClauseStore, MOST_VARIABLES};
+use std::alloc::Global;
 
 // The learning chooser. Its memory is reserved once, when it is made, and no call takes more.
 // With E entries the row takes 2 E bytes, and the pool with its spare copy 4 (E + 262,144). The pool has room for
 // E / 3 + 16,384 clauses, each of which takes 28 bytes for where it starts, its two watches and its worth. To this come
-// 180,228 bytes for the 4,096 variables that it can have, whether they are allotted or not: 44 for each, and a few for all.
-// In all that is less than 16 E + 1,700,000 bytes.
+// 212,996 bytes for the 4,096 variables that it can have, whether they are allotted or not: 52 for each, and a few for all.
+// In all that is less than 16 E + 1,730,000 bytes.
 #[derive(Drop)]
 pub struct Learning {
-    // The clauses that were added, each as its length and then its literals: an entry for each number.
-    pub(crate) row: Vec<u16>,
-    // Clauses that every allowed way meets, added and learned ones, and where they start; and room to sort them out.
-    pub(crate) pool: Vec<u16>,
-    pub(crate) starts: Vec<u32>,
-    pub(crate) spare: Vec<u16>,
-    pub(crate) listed: Vec<u32>,
-    pub(crate) tally: Tally,
-    pub(crate) watches: Watches,
-    // A literal that is off is false at every allowed way.
-    pub(crate) off: Vec<u8>,
-    // Working memory of the search, the values that variables last had among it.
-    pub(crate) seen: Vec<u8>,
-    pub(crate) buf: Vec<u16>,
-    pub(crate) trail: Box<Trail>,
-    pub(crate) order: Box<Order>,
+    solver: Solver,
     // Whether it was found that no way is allowed.
-    pub(crate) empty: bool,
-    // How many entries it was made with, and how many variables are allotted.
-    pub(crate) entries: usize,
-    pub(crate) count: u16,
-    ghost fits: { vec_len row ≤ entries },
-    ghost reserved: { entries ≤ vec_capacity row },
-    ghost small: { entries ≤ 65535 },
-    ghost few: { count ≤ 4096 },
-    ghost whole: { inside count 0 row.items ≡ true },
-    ghost wide: { vec_len buf ≡ 4096 },
-    ghost lying: { Lying pool.items starts.items tally.count tally.used },
-    ghost lasting: { Lasting (allowed row.items) pool.items starts.items tally.count },
-    ghost filled: { tally.used ≤ vec_len pool },
-    ghost offs: { KnownOff (allowed row.items) off.items },
-    ghost none: { (empty ≡ true → Empty row.items) },
+    empty: bool,
+    ghost none: { (empty ≡ true → Empty solver.search.facts.store.row.items) },
+}
+
+impl Learning {
+    ghost use Rattle.chooser.specs.Made.{Made};
+    ghost use Rattle.learning.specs.Means.{learning_means};
+
+    // Makes a chooser of so many entries that has no variable and allows every way.
+    pub fn new(heap: Global, entries: usize) -> Result<Learning, MakeFault>
+        ensures { Made learning_means 4096 entries result }
+    {
+        let store = ClauseStore::new(heap, entries)?;
+        Ok(Learning {
+            solver: Solver::new(heap, store)?,
+            empty: false,
+        })
+    }
+}
+
+impl Chooser for Learning {
+    ghost use Rattle.chooser.specs.Steps.{Add};
+    ghost use Rattle.rows.specs.Store.{Spent};
+    ghost use Rattle.learning.specs.Means.{learning_means, learning_laws};
+
+    const MAX_VARIABLES: u16 = MOST_VARIABLES;
+
+    ghost meaning = { learning_means };
+
+    ghost most = { 4096 };
+
+    ghost laws = { learning_laws };
+
+    fn variables_most() -> u16 {
+        Self::MAX_VARIABLES
+    }
+
+    fn variables_left(&self) -> u16 {
+        self.solver.search.facts.store.variables_left()
+    }
+
+    fn entries_left(&self) -> usize {
+        self.solver.search.facts.store.entries_left()
+    }
+
+    fn new_variable(&mut self) -> Result<u16, Fault> {
+        self.solver.search.new_variable()
+    }
+
+    // An accepted clause of L literals spends exactly L + 1 entries.
+    fn add(&mut self, clause: &[u16]) -> Result<(), Fault>
+        ensures adds { Add (learning_means self.old) (learning_means self.new) clause.now result }
+        ensures spends { Spent (learning_means self.old) (learning_means self.new) clause.now result }
+    {
+        let empty = self.solver.add(clause)?;
+        self.empty = self.empty | empty;
+        Ok(())
+    }
+
+    fn ask(&mut self, assumptions: &[u16], answer: &mut [u8]) -> Result<Answer, Fault> {
+        self.solver
+            .search
+            .facts
+            .store
+            .check_question(assumptions, answer)?;
+        if self.empty {
+            return Ok(Answer::No);
+        }
+        match run(&mut self.solver, assumptions, answer) {
+            Outcome::Yes => Ok(Answer::Yes),
+            Outcome::No => Ok(Answer::No),
+            Outcome::Never => {
+                self.empty = true;
+                Ok(Answer::No)
+            }
+        }
+    }
 }

@@ -1,112 +1,113 @@
--- A literal that the written values make false is false on the trail or open; a clause of such literals, none of them open,
--- shows the trail dead.
-use Rattle.std.proofs.Common.{◌≡◌, ℕ, zero, suc, ◌+◌, ◌*◌, ◌/◌, ◌%◌, ◌<◌, ◌≤◌, Bool, true, false, not, ◌&&◌, eqb, List, [], ◌∷◌, length, get_or, take, drop, sym, ap, ◌∙◌, subst, ⊎_elim, arith}
-use Rattle.std.proofs.lemmas.Bool.{both_ways, cases_eq, cases_lt, cases_Bool, cond-true, cond-false, eq-eqb, ne_eqb, eqb-true, eqb-false, not-false, and_parts, or_parts}
-use Rattle.std.proofs.lemmas.List.{get_or-take, get_or-drop, length-take-le, length-drop, drop_more, drop-drop}
-use Rattle.chooser.specs.Ways.{lit, some, written}
-use Rattle.rows.specs.Rows.{holds, inside}
-use Rattle.rows.proofs.Clauses.{Whole, holds_clause, inside_clause}
-use Rattle.rows.proofs.Lits.{allotted_at}
-use Rattle.implied.specs.Implied.{allowed, Known}
-use Rattle.implied.proofs.Literals.{held_some}
-use Rattle.trail.specs.Trails.{Dead, Refuted, Sound}
+-- The clauses of a row, and what the first of them shows that written values do not meet. A literal that the written values make
+-- false is false on the trail or open; a clause of such literals, none of them open, shows the trail dead.
+use Rattle.std.proofs.Common.{◌≡◌, ℕ, ◌+◌, ◌/◌, ◌%◌, ◌<◌, Bool, true, false, not, ◌||◌, eqb, List, [], ◌∷◌, length, get_or, Option, Some, None, MatchOption, All, Contains, Bor, sym, refl, ap, ◌∙◌, subst, ⊎_elim, arith, add-one}
+use Rattle.std.specs.List.{find, list_any}
+use Rattle.std.proofs.lemmas.Bool.{both_ways, cases_eq, cases_Bool, cond-true, cond-false, eqb-true, eqb-false, eq-eqb, ne_eqb, not-true, not-false}
+use Rattle.std.proofs.lemmas.List.Elements.{All-nil, All-cons, All-contains, All-weaker}
+use Rattle.std.proofs.lemmas.List.Sums.{AllPass-from_list_all, list_all-from_AllPass}
+use Rattle.chooser.specs.Ways.{lit, some, every, allotted, written}
+use Rattle.rows.specs.Rows.{holds, inside, clauses_of}
+use Rattle.rows.proofs.Clauses.{holds_clauses, clauses_named}
+use Rattle.rows.proofs.Lits.{every_from, some_none}
+use Rattle.std.specs.Option.{option_map}
+use Rattle.trail.specs.declared.step.Step.{Step}
+use Rattle.trail.specs.declared.step.Value.{Value}
+use Rattle.trail.specs.declared.step.Value.TheVariants.{False, True, Open}
+use Rattle.trail.specs.Trails.{literal_at, Dead, Sound}
+use Rattle.trail.specs.Values.{value_at, Free, Refuted}
 use Rattle.trail.proofs.Sounds.{refuted_off}
-use Rattle.outcome.specs.Outcome.{Copied, Failing}
+use Rattle.outcome.specs.Outcome.{byte_of, Copied, Failing, Missed}
 
-module _ (val out : List ℕ) (k : ℕ) (c : Copied val out k) where
-  pub copied_small : get_or out k 0 < 2
-  copied_small =
-      ⊎_elim
-      (λ t. let e : get_or out k 0 ≡ 1 = c ∙ cond-true (eqb (get_or val k 0) 1) 1 0 t in omega arith)
-      (λ f. let e : get_or out k 0 ≡ 0 = c ∙ cond-false (eqb (get_or val k 0) 1) 1 0 f in omega arith)
-      (cases_Bool (eqb (get_or val k 0) 1))
+-- some literal passes, as the library says it
+pub any_some : (f : ℕ → Bool) (xs : List ℕ) → list_any f xs ≡ some f xs
+any_some f [] = refl
+any_some f (x ∷ xs) = ap (λ b. f x || b) (any_some f xs)
 
-  copied_one : written out k ≡ true → get_or val k 0 ≡ 1
-  copied_one e =
-      ⊎_elim (λ t. eqb-true (get_or val k 0) 1 t)
-      (λ f. let none : get_or out k 0 ≡ 0 = c ∙ cond-false (eqb (get_or val k 0) 1) 1 0 f in let is : get_or out k 0 ≡ 1 = eqb-true (get_or out k 0) 1 e in let z : ⊥ = omega arith in absurd z)
-      (cases_Bool (eqb (get_or val k 0) 1))
+-- what is found is the first that passes; where nothing is, each fails
+pub found : {X : Type 0} (test : X → Bool) (xs : List X) → MatchOption (find test xs) (All (λ x. test x ≡ false) xs) (λ x. Contains xs x × (test x ≡ true))
+found test [] = All-nil (λ x. test x ≡ false)
+found {X} test (x ∷ xs) =
+    let P : Type 0 = All (λ y. test y ≡ false) (x ∷ xs) in
+    let Q : X → Type 0 = λ y. Contains (x ∷ xs) y × (test y ≡ true) in
+    ⊎_elim
+    (λ t. subst (λ o. MatchOption o P Q) (sym (cond-true (test x) (Some x) (find test xs) t)) ((0, omega arith, refl), t))
+    (λ f. subst (λ o. MatchOption o P Q) (sym (cond-false (test x) (Some x) (find test xs) f))
+    (elim (find test xs) as (λ o. MatchOption o (All (λ y. test y ≡ false) xs) (λ y. Contains xs y × (test y ≡ true)) → MatchOption o P Q) [
+      | None ↦ λ h. All-cons (λ y. test y ≡ false) x xs f h
+      | Some y ↦ λ h. ((h.0.0 + 1, omega (arith, h.0.1), (rw add-one h.0.2)), h.1)
+    ] (found test xs)))
+    (cases_Bool (test x))
 
-  copied_none : written out k ≡ false → get_or val k 0 ≡ 1 → ⊥
-  copied_none e is =
-      let one : get_or out k 0 ≡ 1 = c ∙ cond-true (eqb (get_or val k 0) 1) 1 0 (eq-eqb (get_or val k 0) 1 is) in
-      eqb-false (get_or out k 0) 1 e one
+module _ (row out : List ℕ) (whole : inside (length out) 0 row ≡ true) where
+  abbrev misses : List ℕ → Bool
+  misses c = not (some (lit (written out)) c)
+
+  -- no clause of the row is missed
+  none_missed : All (λ c. misses c ≡ false) (clauses_of row) → holds (lit (written out)) true 0 row ≡ true
+  none_missed h =
+      holds_clauses (lit (written out)) row
+      ∙ list_all-from_AllPass (some (lit (written out))) (clauses_of row) (All-weaker (λ c. misses c ≡ false) (λ c. some (lit (written out)) c ≡ true) (λ c e. not-false (some (lit (written out)) c) e) (clauses_of row) h)
+
+  one_missed : (c : List ℕ) → Contains (clauses_of row) c → misses c ≡ true → Failing row out c
+  one_missed c among e =
+      record {
+        known = λ p x. All-contains (λ k. some (lit p) k ≡ true) (clauses_of row) c (AllPass-from_list_all (some (lit p)) (clauses_of row) (sym (holds_clauses (lit p) row) ∙ x)) among;
+        named = All-contains (λ k. allotted (length out) k ≡ true) (clauses_of row) c (AllPass-from_list_all (allotted (length out)) (clauses_of row) (clauses_named (length out) 0 row whole)) among;
+        off = not-true (some (lit (written out)) c) e;
+      }
+
+  -- the first clause that is missed
+  pub first_missed : (r : Option (Bor (List ℕ))) → option_map (λ x. x.now) r ≡ find misses (clauses_of row)
+      → MatchOption r (holds (lit (written out)) true 0 row ≡ true) (λ c. Failing row out c.now)
+  first_missed None e = none_missed (subst (λ o. MatchOption o (All (λ c. misses c ≡ false) (clauses_of row)) (λ c. Contains (clauses_of row) c × (misses c ≡ true))) (sym e) (found misses (clauses_of row)))
+  first_missed (Some c) e =
+      let w = subst (λ o. MatchOption o (All (λ k. misses k ≡ false) (clauses_of row)) (λ k. Contains (clauses_of row) k × (misses k ≡ true))) (sym e) (found misses (clauses_of row)) in
+      one_missed c.now w.0 w.1
+
+-- the first assumption that is missed
+module _ (given out : List ℕ) where
+  abbrev off : ℕ → Bool
+  off g = not (lit (written out) g)
+
+  pub first_denied : (r : Option ℕ) → r ≡ find off given → MatchOption r (every (lit (written out)) given ≡ true) (λ g. Missed given out g)
+  first_denied r e =
+      elim r as (λ o. MatchOption o (All (λ g. off g ≡ false) given) (λ g. Contains given g × (off g ≡ true)) → MatchOption o (every (lit (written out)) given ≡ true) (λ g. Missed given out g)) [
+        | None ↦ λ h. every_from (lit (written out)) given (λ k lt. not-false (lit (written out) (get_or given k 0)) (h k 0 lt))
+        | Some g ↦ λ h. record { among = h.0; off = not-true (lit (written out) g) h.1 }
+      ] (subst (λ o. MatchOption o (All (λ g. off g ≡ false) given) (λ g. Contains given g × (off g ≡ true))) (sym e) (found off given))
 
 -- a literal that is not met as written, and is not open
-pub refuted_from : (val out : List ℕ) (l : ℕ) → Copied val out (l / 2) → l / 2 < length val → (1 < get_or val (l / 2) 0 → ⊥) → lit (written out) l ≡ false → Refuted val l
-refuted_from val out l c lt shut off =
+byte_one : (v : Value) → byte_of v ≡ 1 → v ≡ True
+byte_one False e = let z : ⊥ = omega arith in absurd z
+byte_one True e = refl
+byte_one Open e = let z : ⊥ = omega arith in absurd z
+
+pub byte_small : (v : Value) → byte_of v < 2
+byte_small False = omega arith
+byte_small True = omega arith
+byte_small Open = omega arith
+
+byte_none : (v : Value) → (v ≡ Open → ⊥) → (byte_of v ≡ 1 → ⊥) → v ≡ False
+byte_none False shut low = refl
+byte_none True shut low = absurd (low refl)
+byte_none Open shut low = absurd (shut refl)
+
+pub refuted_from : (values : List Value) (out : List ℕ) (l : ℕ) → Copied values out (l / 2) → l / 2 < length values → (Free values l → ⊥) → lit (written out) l ≡ false → Refuted values l
+refuted_from values out l c lt shut off =
+    let v = value_at values (l / 2) in
     ⊎_elim
     (λ e. let w : written out (l / 2) ≡ false = sym (cond-true (eqb (l % 2) 0) (written out (l / 2)) (not (written out (l / 2))) (eq-eqb (l % 2) 0 e)) ∙ off in
-    let ne : get_or val (l / 2) 0 ≡ 1 → ⊥ = copied_none val out (l / 2) c w in
-    let low : get_or val (l / 2) 0 ≤ 1 = ⊎_elim (λ h. absurd (shut h)) (λ h. h) (cases_lt 1 (get_or val (l / 2) 0)) in
-    let zero-value : get_or val (l / 2) 0 ≡ 0 = ⊎_elim (λ z. z) (λ z. let one : get_or val (l / 2) 0 ≡ 1 = omega arith in absurd (ne one)) (cases_eq (get_or val (l / 2) 0) 0) in
-    (lt, zero-value ∙ sym e))
+    (lt, byte_none v shut (λ one. eqb-false (get_or out (l / 2) 0) 1 w (c ∙ one)) ∙ sym (cond-true (eqb (l % 2) 0) False True (eq-eqb (l % 2) 0 e))))
     (λ o. let w : not (written out (l / 2)) ≡ false = sym (cond-false (eqb (l % 2) 0) (written out (l / 2)) (not (written out (l / 2))) (ne_eqb (l % 2) 0 o)) ∙ off in
-    let one : get_or val (l / 2) 0 ≡ 1 = copied_one val out (l / 2) c (not-false (written out (l / 2)) w) in
-    (lt, omega arith))
+    (lt, byte_one v (sym c ∙ eqb-true (get_or out (l / 2) 0) 1 (not-false (written out (l / 2)) w)) ∙ sym (cond-false (eqb (l % 2) 0) False True (ne_eqb (l % 2) 0 o))))
     (cases_eq (l % 2) 0)
 
-module _ (X : (ℕ → Bool) → Bool) (val lits marks : List ℕ) (d : ℕ) (s : Sound X val lits marks d) where
-  pub all_refuted : (row : List ℕ) (used c : ℕ) → Known X row used c → ((k : ℕ) → k < get_or row c 0 → Refuted val (get_or row (c + 1 + k) 0)) → Dead X lits d
-  all_refuted row used c known f p x along =
-      let w = known.says p x in
-      both_ways (lit p (get_or row (c + 1 + w.0) 0)) (refuted_off X val lits marks d s p (get_or row (c + 1 + w.0) 0) along (f w.0 w.1)) w.2
+module _ (X : (ℕ → Bool) → Bool) (values : List Value) (positions : List ℕ) (steps : List Step) (s : Sound X values positions steps) where
+  -- a clause that each allowed way meets, of false literals
+  pub all_refuted : (c : List ℕ) → ((p : ℕ → Bool) → X p ≡ true → some (lit p) c ≡ true) → ((k : ℕ) → k < length c → Refuted values (get_or c k 0)) → Dead X steps
+  all_refuted c known f p x along =
+      both_ways (some (lit p) c) (some_none (lit p) c (λ k lt. refuted_off X values positions steps s p (get_or c k 0) along (f k lt))) (known p x)
 
   -- an assumption on the trail that is false there
-  pub both_dead : (g j : ℕ) → j < d → get_or lits j 0 ≡ g → Refuted val g → Dead X lits d
-  both_dead g j lt is f p x along = both_ways (lit p g) (refuted_off X val lits marks d s p g along f) (ap (lit p) (sym is) ∙ along j lt)
-
--- the clause at s of a row, and the row behind it
-module _ (row : List ℕ) (v s : ℕ) (lt : s < length row) (whole : inside v 0 (drop s row) ≡ true) where
-  front : drop s row ≡ get_or row s 0 ∷ drop (s + 1) row
-  front = drop_more row s 0 lt
-
-  parts : Whole v (get_or row s 0) (drop (s + 1) row)
-  parts = inside_clause v (get_or row s 0) (drop (s + 1) row) (subst (λ z. inside v 0 z ≡ true) front whole)
-
-  far : drop (get_or row s 0) (drop (s + 1) row) ≡ drop (s + (get_or row s 0 + 1)) row
-  far = let e : s + 1 + get_or row s 0 ≡ s + (get_or row s 0 + 1) = omega arith in drop-drop (get_or row s 0) (s + 1) row ∙ ap (λ k. drop k row) e
-
-  pub clause_fits : s + 1 + get_or row s 0 ≤ length row
-  clause_fits = let h = parts.fits in let l = length-drop (s + 1) row in omega arith
-
-  pub behind_inside : inside v 0 (drop (s + (get_or row s 0 + 1)) row) ≡ true
-  behind_inside = subst (λ z. inside v 0 z ≡ true) far parts.behind
-
-  pub clause_holds : (f : ℕ → Bool) → holds f true 0 (drop s row) ≡ (some f (take (get_or row s 0) (drop (s + 1) row)) && holds f true 0 (drop (s + (get_or row s 0 + 1)) row))
-  clause_holds f =
-      ap (λ z. holds f true 0 z) front
-      ∙ holds_clause f (get_or row s 0) (drop (s + 1) row) false parts.fits
-      ∙ ap (λ z. some f (take (get_or row s 0) (drop (s + 1) row)) && holds f true 0 z) far
-
-  at : (k : ℕ) → k < get_or row s 0 → get_or (take (get_or row s 0) (drop (s + 1) row)) k 0 ≡ get_or row (s + 1 + k) 0
-  at k less = get_or-take (get_or row s 0) (drop (s + 1) row) k 0 less ∙ get_or-drop (s + 1) row k 0
-
-  size : length (take (get_or row s 0) (drop (s + 1) row)) ≡ get_or row s 0
-  size = length-take-le (get_or row s 0) (drop (s + 1) row) parts.fits
-
-  pub clause_known : ((f : ℕ → Bool) → holds f true 0 row ≡ true → holds f true 0 (drop s row) ≡ true) → Known (allowed row) row (length row) s
-  clause_known reach =
-      record {
-        fits = clause_fits;
-        says = λ p x.
-            let met = (and_parts (some (lit p) (take (get_or row s 0) (drop (s + 1) row))) (holds (lit p) true 0 (drop (s + (get_or row s 0 + 1)) row)) (sym (clause_holds (lit p)) ∙ reach (lit p) x)).0 in
-            let w = held_some p (take (get_or row s 0) (drop (s + 1) row)) met in
-            let less : w.0 < get_or row s 0 = let h = w.1 in omega (arith, size) in
-            (w.0, less, ap (lit p) (sym (at w.0 less)) ∙ w.2);
-      }
-
-  pub clause_failing : (out : List ℕ) → length out ≡ v → ((f : ℕ → Bool) → holds f true 0 row ≡ true → holds f true 0 (drop s row) ≡ true)
-      → some (lit (written out)) (take (get_or row s 0) (drop (s + 1) row)) ≡ false → Failing row out s
-  clause_failing out is reach off =
-      record {
-        within = lt;
-        known = clause_known reach;
-        named = λ k less. subst (λ z. z < 2 * length out) (at k less) (subst (λ u. get_or (take (get_or row s 0) (drop (s + 1) row)) k 0 < 2 * u) (sym is) (allotted_at v (take (get_or row s 0) (drop (s + 1) row)) k parts.named (omega (arith, size))));
-        off = λ k less. ap (lit (written out)) (sym (at k less)) ∙ none_at (lit (written out)) (take (get_or row s 0) (drop (s + 1) row)) k off (omega (arith, size));
-      }
-    where
-      none_at : (f : ℕ → Bool) (c : List ℕ) (k : ℕ) → some f c ≡ false → k < length c → f (get_or c k 0) ≡ false
-      none_at f [] k e less = let z : ⊥ = omega arith in absurd z
-      none_at f (x ∷ xs) zero e less = (or_parts (f x) (some f xs) e).0
-      none_at f (x ∷ xs) (suc k) e less = none_at f xs k (or_parts (f x) (some f xs) e).1 (omega arith)
+  pub both_dead : (g j : ℕ) → j < length steps → literal_at steps j ≡ g → Refuted values g → Dead X steps
+  both_dead g j lt is f p x along = both_ways (lit p g) (refuted_off X values positions steps s p g along f) (ap (lit p) (sym is) ∙ along j lt)

@@ -2,19 +2,19 @@
 // assumption. Where one fails, a literal of it is open, or no allowed way is along the trail.
 #![tactic(auto)]
 
-ghost use Rattle.std.specs.Prelude.{◌≡◌, ℕ, ◌+◌, ◌/◌, ◌<◌, ◌≤◌, Bool, true, false, length, slice_index};
-ghost use Rattle.chooser.specs.Ways.{lit, some, allotted, written};
-ghost use Rattle.rows.specs.Rows.{inside};
+ghost use Rattle.std.specs.Prelude.{◌≡◌, ℕ, ◌<◌, ◌≤◌, Bool, true, false, length, slice_index, MatchOption};
+ghost use Rattle.chooser.specs.Ways.{lit, some, every, allotted, written};
+ghost use Rattle.rows.specs.Rows.{inside, holds};
 ghost use Rattle.implied.specs.Implied.{allowed};
-ghost use Rattle.trail.specs.Trails.{Dead};
-ghost use Rattle.trail.specs.Steps.{Steady};
-ghost use Rattle.outcome.specs.Outcome.{Copied, Failing, Checked, Denied, Onto, Concluded};
+ghost use Rattle.trail.specs.Trails.{literal_at};
+ghost use Rattle.trail.specs.Values.{Free};
+ghost use Rattle.outcome.specs.Outcome.{byte_of, Copied, Failing, Missed, Onto, Concluded};
 
-use implied::at8;
-use trail::{Trail, value};
+use rows::ClauseIter;
+use trail::{Search, Trail, Value};
 
 // What comes next: a literal to decide, a clash, or the answer.
-#[derive(Clone, Copy)]
+#[derive(Clone, Copy, PartialEq, Eq, Debug)]
 pub enum Next {
     Decide(u16),
     Clash,
@@ -22,13 +22,24 @@ pub enum Next {
     No,
 }
 
-// Writes the values out: 1 for a variable that is true, else 0.
-fn write(t: &Trail, out: &mut [u8])
-    requires { length out.old ≤ 4096 }
-    ensures { (k : ℕ) → k < length out.new → Copied t.now.val out.new k }
+// Returns the byte that an answer has for a value: 1 for true, else 0.
+// Kept as it is: an answer is bytes in memory that the caller lends, in the form that the choosers' trait says.
+fn byte(value: Value) -> u8
+    ensures { result ≡ byte_of value }
 {
-    for v in 0..out.len() {
-        out[v] = if t.val[v] == 1 { 1 } else { 0 };
+    match value {
+        Value::True => 1,
+        Value::False | Value::Open => 0,
+    }
+}
+
+// Writes the values out.
+fn write(trail: &Trail, out: &mut [u8])
+    requires { length out.old ≤ 4096 }
+    ensures { (k : ℕ) → k < length out.new → Copied trail.now.values out.new k }
+{
+    for (v, written) in out.iter_mut().enumerate() {
+        *written = byte(trail.values[v]);
     }
 }
 
@@ -36,7 +47,7 @@ fn write(t: &Trail, out: &mut [u8])
 fn holds_in(out: &[u8], l: u16) -> bool
     ensures { result ≡ lit (written out.now) l }
 {
-    let one = at8(out, (l / 2) as usize) == 1;
+    let one = out.get((l / 2) as usize).copied() == Some(1);
     if l % 2 == 0 { one } else { !one }
 }
 
@@ -44,80 +55,62 @@ fn holds_in(out: &[u8], l: u16) -> bool
 fn meets(out: &[u8], clause: &[u16]) -> bool
     ensures { result ≡ some (lit (written out.now)) clause.now }
 {
-    for l in clause {
-        if holds_in(out, *l) {
-            return true;
-        }
-    }
-    false
+    clause.iter().any(|l| holds_in(out, *l))
 }
 
-// Returns where the first clause starts that the written values do not meet, or the row's length.
-fn unmet(row: &[u16], out: &[u8]) -> usize
+// Returns the first clause that the written values do not meet.
+fn unmet<'a>(row: &'a [u16], out: &[u8]) -> Option<&'a [u16]>
     requires { inside (length out.now) 0 row.now ≡ true }
-    ensures { Checked row.now out.now result }
+    ensures { MatchOption result (holds (lit (written out.now)) true 0 row.now ≡ true) (λ clause. Failing row.now out.now clause.now) }
 {
-    let mut s: usize = 0;
-    while s < row.len() {
-        let len = row[s] as usize;
-        if !meets(out, &row[s + 1..s + 1 + len]) {
-            return s;
-        }
-        s += len + 1;
-    }
-    row.len()
+    ClauseIter::new(row).find(|clause| !meets(out, clause))
 }
 
-// Returns the place of the first assumption that the written values do not meet, or their number.
-fn denied(given: &[u16], out: &[u8]) -> usize
-    ensures { Denied given.now out.now result }
+// Returns the first assumption that the written values do not meet.
+fn denied(given: &[u16], out: &[u8]) -> Option<u16>
+    ensures { MatchOption result (every (lit (written out.now)) given.now ≡ true) (λ g. Missed given.now out.now g) }
 {
-    for i in 0..given.len() {
-        if !holds_in(out, given[i]) {
-            return i;
-        }
-    }
-    given.len()
+    given.iter().find(|g| !holds_in(out, **g)).copied()
+}
+
+// Returns whether the literal is of an open variable.
+fn is_open(trail: &Trail, l: u16) -> bool
+    ensures open { result ≡ true → Free trail.now.values l }
+    ensures shut { Free trail.now.values l → result ≡ true }
+{
+    trail.value(l) == Some(Value::Open)
 }
 
 // Goes over a clause that the written values do not meet: a literal of it that is open is to be decided.
-fn reopen(row: &[u16], t: &Trail, out: &[u8], s: usize) -> Next
-    requires steady { Steady (allowed row.now) t.now }
+fn reopen(search: &Search, out: &[u8], clause: &[u16]) -> Next
     requires few { length out.now ≤ 4096 }
-    requires copied { (k : ℕ) → k < length out.now → Copied t.now.val out.now k }
-    requires failing { Failing row.now out.now s }
-    ensures { Onto (allowed row.now) t.now.val t.now.lits t.now.len result }
+    requires copied { (k : ℕ) → k < length out.now → Copied search.now.trail.values out.now k }
+    requires failing { Failing search.now.facts.store.row.items out.now clause.now }
+    ensures { Onto (allowed search.now.facts.store.row.items) search.now.trail.values search.now.trail.steps.items result }
 {
-    let len = row[s] as usize;
-    for k in 0..len {
-        let m = row[s + 1 + k];
-        if value(t, m) == 2 {
-            return Next::Decide(m);
-        }
+    match clause.iter().find(|m| is_open(&search.trail, **m)) {
+        Some(m) => Next::Decide(*m),
+        None => Next::Clash,
     }
-    Next::Clash
 }
 
 // Writes the values out, and holds them against each clause and each assumption.
-pub fn conclude(row: &[u16], given: &[u16], t: &Trail, out: &mut [u8]) -> Next
-    requires steady { Steady (allowed row.now) t.now }
+pub fn conclude(search: &Search, given: &[u16], out: &mut [u8]) -> Next
     requires few { length out.old ≤ 4096 }
-    requires sound { inside (length out.old) 0 row.now ≡ true }
+    requires sound { inside (length out.old) 0 search.now.facts.store.row.items ≡ true }
     requires named { allotted (length out.old) given.now ≡ true }
-    requires assumed { (i : ℕ) → i < length given.now → (j : ℕ) × (j < t.now.len) × (slice_index t.now.lits j ≡ slice_index given.now i) }
-    ensures { Concluded row.now given.now t.now.val t.now.lits t.now.len out.new result }
+    requires assumed { (i : ℕ) → i < length given.now → (j : ℕ) × (j < length search.now.trail.steps.items) × (literal_at search.now.trail.steps.items j ≡ slice_index given.now i) }
+    ensures { Concluded search.now.facts.store.row.items given.now search.now.trail.values search.now.trail.steps.items out.new result }
 {
-    write(t, out);
-    let s = unmet(row, out);
-    if s < row.len() {
-        return reopen(row, t, out, s);
+    write(&search.trail, out);
+    if let Some(clause) = unmet(search.facts.store.row(), out) {
+        return reopen(search, out, clause);
     }
-    let i = denied(given, out);
-    if i < given.len() {
-        if value(t, given[i]) == 2 {
-            return Next::Decide(given[i]);
-        }
+    let Some(g) = denied(given, out) else {
+        return Next::Yes;
+    };
+    if !is_open(&search.trail, g) {
         return Next::Clash;
     }
-    Next::Yes
+    Next::Decide(g)
 }

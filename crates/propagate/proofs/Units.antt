@@ -1,45 +1,39 @@
 -- A clause of which all literals but one are false shows that one, and a clause that is false shows the trail dead.
-use Rattle.std.proofs.Common.{◌≡◌, ℕ, ◌+◌, ◌<◌, ◌≤◌, Bool, true, false, ◌⊎◌, List, get_or, set, sym, refl, subst, ⊎_elim, arith}
+use Rattle.std.proofs.Common.{◌≡◌, ℕ, ◌<◌, Bool, true, false, ◌⊎◌, List, length, get_or, sym, refl, ◌∙◌, subst, ⊎_elim, inl, inr}
 use Rattle.std.proofs.lemmas.Bool.{both_ways}
-use Rattle.chooser.specs.Ways.{lit}
-use Rattle.implied.specs.Implied.{Known}
-use Rattle.trail.specs.Trails.{Follows, Dead, Refuted, Sound, Grew}
-use Rattle.trail.specs.declared.kept.Trail.{Trail}
-use Rattle.trail.specs.Steps.{Steady, Pushed}
+use Rattle.chooser.specs.Ways.{lit, some}
+use Rattle.rows.proofs.Lits.{some_only}
+use Rattle.trail.specs.declared.step.Value.{Value}
+use Rattle.trail.specs.declared.step.Reason.TheVariants.{Decision, Clause}
+use Rattle.trail.specs.declared.step.Step.{Step}
+use Rattle.trail.specs.declared.search.Search.{Search}
+use Rattle.trail.specs.Values.{Refuted}
+use Rattle.trail.specs.Trails.{Follows, Dead, Sound}
+use Rattle.trail.specs.Steps.{Pushed}
 use Rattle.trail.proofs.Sounds.{refuted_off, grew_none, grew_push, grew_trans}
 use Rattle.propagate.specs.Visits.{Onward}
 
-module _ (X : (ℕ → Bool) → Bool) (val lits marks : List ℕ) (d : ℕ) (s : Sound X val lits marks d) where
-  module _ (pool : List ℕ) (used c other : ℕ) (known : Known X pool used c)
-      (false-but : (i : ℕ) → c + 1 ≤ i → i < c + 1 + get_or pool c 0 → (get_or pool i 0 ≡ other) ⊎ Refuted val (get_or pool i 0)) where
-    pub unit_follows : Follows X lits d other
+module _ (X : (ℕ → Bool) → Bool) (values : List Value) (positions : List ℕ) (steps : List Step) (s : Sound X values positions steps) where
+  module _ (clause : List ℕ) (other : ℕ) (met : (p : ℕ → Bool) → X p ≡ true → some (lit p) clause ≡ true)
+      (false-but : (i : ℕ) → i < length clause → (get_or clause i 0 ≡ other) ⊎ Refuted values (get_or clause i 0)) where
+    pub unit_follows : Follows X steps (length steps) other
     unit_follows p x along =
-        let w = known.says p x in
-        let lt : w.0 < get_or pool c 0 = w.1 in
-        let at = c + 1 + w.0 in
-        ⊎_elim
-        (λ is. subst (λ l. lit p l ≡ true) is w.2)
-        (λ f. absurd (both_ways (lit p (get_or pool at 0)) (refuted_off X val lits marks d s p (get_or pool at 0) along f) w.2))
-        (false-but at (omega arith) (omega arith))
+        some_only (lit p) other clause
+        (λ i lt. ⊎_elim (λ is. inr is) (λ f. inl (refuted_off X values positions steps s p (get_or clause i 0) along f)) (false-but i lt))
+        (met p x)
 
-    pub clash_dead : Refuted val other → Dead X lits d
-    clash_dead f p x along = both_ways (lit p other) (refuted_off X val lits marks d s p other along f) (unit_follows p x along)
+    pub clash_dead : Refuted values other → Dead X steps
+    clash_dead f p x along = both_ways (lit p other) (refuted_off X values positions steps s p other along f) (unit_follows p x along)
 
-pub onward_trans : (X : (ℕ → Bool) → Bool) (t u v : Trail) → Onward X t u → Onward X u v → Onward X t v
-onward_trans X t u v g h =
-    record { steady = h.steady; grew = grew_trans t.marks t.lits t.len u.marks u.lits u.len v.marks v.lits v.len g.grew h.grew }
+pub onward_trans : (s t u : Search) → Onward s t → Onward t u → Onward s u
+onward_trans s t u g h = record { facts = h.facts ∙ g.facts; grew = grew_trans s.trail.steps.items t.trail.steps.items u.trail.steps.items g.grew h.grew }
 
-pub onward_none : (X : (ℕ → Bool) → Bool) (t : Trail) → Steady X t → Onward X t t
-onward_none X t s = record { steady = s; grew = grew_none t.marks t.lits t.len }
+pub onward_none : (s : Search) → Onward s s
+onward_none s = record { facts = refl; grew = grew_none s.trail.steps.items }
 
 -- a literal that follows was put, or was not
-pub onward_push : (X : (ℕ → Bool) → Bool) (t u : Trail) (l : ℕ) (r : Bool) → Steady X t → Steady X u → Pushed t u l 2 r → Onward X t u
-onward_push X t u l true s after p =
-    record {
-      steady = after;
-      grew = subst (λ m. Grew t.marks t.lits t.len m u.lits u.len) (sym p.marks)
-          (subst (λ m. Grew t.marks t.lits t.len (set t.marks t.len 2) m u.len) (sym p.lits)
-          (subst (λ m. Grew t.marks t.lits t.len (set t.marks t.len 2) (set t.lits t.len l) m) (sym p.more)
-          (grew_push X t.val t.lits t.marks t.len s l 2 p.within refl t.marks t.lits t.len (grew_none t.marks t.lits t.len))));
-    }
-onward_push X t u l false s after p = subst (Onward X t) (sym p.0) (onward_none X t s)
+pub onward_push : (s t : Search) (l c : ℕ) (put : Bool) → Pushed s t l (Clause c) put → Onward s t
+onward_push s t l c true p =
+    let no-decision : Clause c ≡ Decision → ⊥ = λ e. cc in
+    record { facts = p.facts; grew = rw p.steps (grew_push s.trail.steps.items (record { literal = l; level = p.level; reason = Clause c }) p.within no-decision) }
+onward_push s t l c false p = subst (Onward s) (sym p.0) (onward_none s)

@@ -1,21 +1,21 @@
--- What visits of clauses do to a trail: it stays sound and only grows, and where a clause is false no allowed way is along it.
-use Rattle.std.specs.Prelude.{ℕ, Bool, ◌≢◌}
+-- What visits of clauses do to a search: its trail only grows, and where a clause is false no allowed way is along it.
+use Rattle.std.specs.Prelude.{◌≡◌, ℕ, Option, IsSome}
+use Rattle.implied.specs.Implied.{allowed}
 use Rattle.trail.specs.Trails.{Dead, Grew}
-use Rattle.trail.specs.Steps.{Steady}
-use Rattle.trail.specs.declared.kept.Trail.{Trail}
-use Rattle.propagate.specs.declared.Visit.{Visit}
-use Rattle.propagate.specs.declared.Visit.TheVariants.{Stays, Moves, Clashes}
+use Rattle.trail.specs.declared.search.Search.{Search}
+use Rattle.propagate.specs.declared.visit.Visit.{Visit}
+use Rattle.propagate.specs.declared.visit.Visit.TheVariants.{Stays, Moves, Clashes}
 
-pub record Onward (X : (ℕ → Bool) → Bool) (t t' : Trail) : Type 0 where
-  pub steady : Steady X t'
-  pub grew : Grew t.marks t.lits t.len t'.marks t'.lits t'.len
+pub record Onward (s s' : Search) : Type 0 where
+  pub facts : s'.facts ≡ s.facts
+  pub grew : Grew s.trail.steps.items s'.trail.steps.items
 
-abbrev pub Visited : ((ℕ → Bool) → Bool) → Trail → Trail → Visit → Type 0
-Visited X t t' Stays = Onward X t t'
-Visited X t t' (Moves m) = Onward X t t'
-Visited X t t' Clashes = Onward X t t' × Dead X t'.lits t'.len
+abbrev pub Visited : Search → Search → Visit → Type 0
+Visited s s' Stays = Onward s s'
+Visited s s' (Moves literal from) = Onward s s'
+Visited s s' Clashes = Onward s s' × Dead (allowed s'.facts.store.row.items) s'.trail.steps.items
 
--- r is the number of a clause that is false, or the greatest number for none
-pub record Stopped (X : (ℕ → Bool) → Bool) (t t' : Trail) (r : ℕ) : Type 0 where
-  pub onward : Onward X t t'
-  pub dead : (r ≢ 4294967295) → Dead X t'.lits t'.len
+-- r is a clause that is false, if there is one
+pub record Stopped (s s' : Search) (r : Option ℕ) : Type 0 where
+  pub onward : Onward s s'
+  pub dead : IsSome r → Dead (allowed s'.facts.store.row.items) s'.trail.steps.items

@@ -1,7 +1,10 @@
 -- Literals under two ways, and lists of literals of which some or every one passes.
-use Rattle.std.proofs.Common.{◌≡◌, ℕ, zero, suc, ◌*◌, ◌/◌, ◌%◌, ◌<◌, Bool, true, false, cond, not, ◌&&◌, ◌||◌, eqb, ltb, ◌⊎◌, List, [], ◌∷◌, length, get_or, sym, refl, ap, ◌∙◌, subst, ⊎_elim, arith}
-use Rattle.std.proofs.lemmas.Bool.{and_parts, and_from, or_cases, or_left, or_right, not-true, both_ways, ltb-true, lt-ltb}
+use Rattle.std.proofs.Common.{◌≡◌, ℕ, zero, suc, ◌+◌, ◌-◌, ◌*◌, ◌/◌, ◌%◌, ◌<◌, Bool, true, false, cond, not, ◌&&◌, ◌||◌, eqb, ltb, ◌⊎◌, List, [], ◌∷◌, ◌++◌, length, get_or, sym, refl, ap, ◌∙◌, subst, ⊎_elim, arith}
+use mathlib.Core.Bool.{and_assoc, or_assoc}
+use Rattle.std.proofs.lemmas.Bool.{and_parts, and_from, or_cases, or_left, or_right, not-true, both_ways, ltb-true, lt-ltb, le-ltb, cases_lt, cases_eq, cond-true, cond-false, eq-eqb, ne_eqb}
+use Rattle.std.specs.List.{list_all}
 use Rattle.chooser.specs.Ways.{lit, some, every, allotted, bits}
+use Rattle.rows.specs.Lits.{opposite}
 
 pub false_from : (b : Bool) → (b ≡ true → ⊥) → b ≡ false
 false_from true h = absurd (h refl)
@@ -51,6 +54,23 @@ module _ (f : ℕ → Bool) where
   every_from [] h = refl
   every_from (x ∷ xs) h = and_from (f x) (every f xs) (h 0 (omega arith)) (every_from xs (λ k l. h (suc k) (omega arith)))
 
+pub every_append : (f : ℕ → Bool) (xs ys : List ℕ) → every f (xs ++ ys) ≡ (every f xs && every f ys)
+every_append f [] ys = refl
+every_append f (x ∷ xs) ys = ap (λ b. f x && b) (every_append f xs ys) ∙ sym (and_assoc (f x) (every f xs) (every f ys))
+
+pub some_append : (f : ℕ → Bool) (xs ys : List ℕ) → some f (xs ++ ys) ≡ (some f xs || some f ys)
+some_append f [] ys = refl
+some_append f (x ∷ xs) ys = ap (λ b. f x || b) (some_append f xs ys) ∙ sym (or_assoc (f x) (some f xs) (some f ys))
+
+-- each passes, as the library says it
+pub every_all : (f : ℕ → Bool) (xs : List ℕ) → list_all f xs ≡ every f xs
+every_all f [] = refl
+every_all f (x ∷ xs) = ap (λ b. f x && b) (every_all f xs)
+
+-- half of a literal, as the code tests it
+pub half_below : (l v : ℕ) → ltb (l / 2) v ≡ ltb l (2 * v)
+half_below l v = ⊎_elim (λ lt. lt-ltb (l / 2) v (omega arith) ∙ sym (lt-ltb l (2 * v) lt)) (λ ge. le-ltb (l / 2) v (omega arith) ∙ sym (le-ltb l (2 * v) ge)) (cases_lt l (2 * v))
+
 pub allotted_at : (v : ℕ) (c : List ℕ) (k : ℕ) → allotted v c ≡ true → k < length c → get_or c k 0 < 2 * v
 allotted_at v c k e lt = ltb-true (get_or c k 0) (2 * v) (every_at (λ l. ltb l (2 * v)) c k e lt)
 
@@ -62,3 +82,35 @@ every_same f g v h (x ∷ xs) e =
 
 pub bits_from : (xs : List ℕ) → ((k : ℕ) → k < length xs → get_or xs k 0 < 2) → bits xs ≡ true
 bits_from xs h = every_from (λ x. ltb x 2) xs (λ k l. lt-ltb (get_or xs k 0) 2 (h k l))
+
+twice : (b : Bool) → b ≡ not (not b)
+twice true = refl
+twice false = refl
+
+module _ (l : ℕ) where
+  pub opposite_variable : opposite l / 2 ≡ l / 2
+  opposite_variable =
+      ⊎_elim
+      (λ z. ap (λ k. k / 2) (cond-true (eqb (l % 2) 0) (l + 1) (l - 1) (eq-eqb (l % 2) 0 z)) ∙ (let h : (l + 1) / 2 ≡ l / 2 = omega arith in h))
+      (λ nz. ap (λ k. k / 2) (cond-false (eqb (l % 2) 0) (l + 1) (l - 1) (ne_eqb (l % 2) 0 nz)) ∙ (let h : (l - 1) / 2 ≡ l / 2 = omega arith in h))
+      (cases_eq (l % 2) 0)
+
+  pub lit_opposite : (p : ℕ → Bool) → lit p (opposite l) ≡ not (lit p l)
+  lit_opposite p =
+      ⊎_elim
+      (λ z.
+      let odd : (l + 1) % 2 ≡ 0 → ⊥ = λ h. omega arith in
+      let same : (l + 1) / 2 ≡ l / 2 = omega arith in
+      ap (lit p) (cond-true (eqb (l % 2) 0) (l + 1) (l - 1) (eq-eqb (l % 2) 0 z))
+      ∙ cond-false (eqb ((l + 1) % 2) 0) (p ((l + 1) / 2)) (not (p ((l + 1) / 2))) (ne_eqb ((l + 1) % 2) 0 odd)
+      ∙ ap (λ k. not (p k)) same
+      ∙ ap not (sym (cond-true (eqb (l % 2) 0) (p (l / 2)) (not (p (l / 2))) (eq-eqb (l % 2) 0 z))))
+      (λ nz.
+      let even : (l - 1) % 2 ≡ 0 = omega arith in
+      let same : (l - 1) / 2 ≡ l / 2 = omega arith in
+      ap (lit p) (cond-false (eqb (l % 2) 0) (l + 1) (l - 1) (ne_eqb (l % 2) 0 nz))
+      ∙ cond-true (eqb ((l - 1) % 2) 0) (p ((l - 1) / 2)) (not (p ((l - 1) / 2))) (eq-eqb ((l - 1) % 2) 0 even)
+      ∙ ap p same
+      ∙ twice (p (l / 2))
+      ∙ ap not (sym (cond-false (eqb (l % 2) 0) (p (l / 2)) (not (p (l / 2))) (ne_eqb (l % 2) 0 nz))))
+      (cases_eq (l % 2) 0)

@@ -1,10 +1,11 @@
 -- What each call of a chooser over a row shows of its meaning.
-use Rattle.std.proofs.Common.{◌≡◌, ℕ, ◌+◌, ◌<◌, ◌≤◌, true, List, ◌∷◌, ◌++◌, length, refl, arith, length-append}
+use Rattle.std.proofs.Common.{◌≡◌, ℕ, ◌+◌, ◌≤◌, true, List, ◌∷◌, ◌++◌, length, refl, arith, length-append, vec_items}
 use Rattle.chooser.specs.Ways.{lit, allotted}
-use Rattle.chooser.specs.Meaning.{Meaning, Same, Local}
-use Rattle.chooser.specs.Steps.{Grown, Added}
+use Rattle.chooser.specs.Meaning.{Meaning, Same, Local, Lawful}
+use Rattle.chooser.specs.Steps.{Added}
 use Rattle.rows.specs.Rows.{inside}
 use Rattle.rows.specs.Meant.{meant}
+use Rattle.rows.specs.Store.{store_means}
 use Rattle.rows.proofs.Rows.{holds_same, holds_append}
 use Rattle.rows.proofs.Lits.{lit_below}
 
@@ -14,9 +15,6 @@ same_self s = record { counts = refl; rooms = refl; leaves = refl; allows = λ p
 module _ (row : List ℕ) (size most v : ℕ) where
   pub meant_local : inside v 0 row ≡ true → Local (meant row size most v)
   meant_local s p q h = holds_same (lit p) (lit q) v (lit_below p q v h) row true 0 s
-
-  pub meant_grown : v < most → Grown (meant row size most v) (meant row size most (v + 1)) v
-  meant_grown h = record { names = refl; counts = refl; rooms = omega arith; leaves = refl; allows = λ p. refl }
 
   module _ (clause : List ℕ) (fits : length row + (length clause + 1) ≤ size) where
     pub meant_added : inside v 0 row ≡ true → allotted v clause ≡ true → Added (meant row size most v) (meant (row ++ (length clause ∷ clause)) size most v) clause
@@ -33,3 +31,11 @@ module _ (row : List ℕ) (size most v : ℕ) where
 
     pub meant_spent : (meant (row ++ (length clause ∷ clause)) size most v).left + (length clause + 1) ≡ (meant row size most v).left
     meant_spent = omega (arith, length-append row (length clause ∷ clause))
+
+-- the laws of what a store of clauses means
+pub store_laws : Lawful store_means 4096
+store_laws = record {
+  local = λ s. meant_local (vec_items s.row) s.entries 4096 s.count s.whole;
+  whole = λ s. let h = s.few in omega arith;
+  small = omega arith;
+}

@@ -3,36 +3,45 @@
 
 ghost use Rattle.std.specs.Prelude.{◌≡◌, ◌+◌, ◌^◌, ◌<◌, ◌≤◌, ◌∷◌, ◌++◌, length, vec_len, vec_capacity};
 ghost use Rattle.chooser.specs.Ways.{allotted};
+ghost use Rattle.rows.specs.Lits.{opposite, Turned};
 ghost use Rattle.rows.specs.Rows.{inside};
+
+mod clause_iter;
+mod store;
+
+pub use clause_iter::ClauseIter;
+pub use store::{ClauseStore, MOST_ENTRIES, MOST_VARIABLES};
+
+// Returns the other literal of the variable.
+pub fn turned(l: u16) -> u16
+    ensures value { result ≡ opposite l }
+    ensures other { Turned l result }
+{
+    if l % 2 == 0 { l + 1 } else { l - 1 }
+}
 
 // Returns whether each literal is of a variable below `count`.
 pub fn are_allotted(count: u16, literals: &[u16]) -> bool
     ensures { result ≡ allotted count literals.now }
 {
-    for l in literals {
-        if *l / 2 >= count {
-            return false;
-        }
-    }
-    true
+    literals.iter().all(|l| *l / 2 < count)
 }
 
 // Returns whether the row has whole clauses over `count` variables.
 pub fn is_whole(count: u16, row: &[u16]) -> bool
     ensures { result ≡ inside count 0 row.now }
 {
-    let mut rest: u16 = 0;
-    for x in row {
-        if rest == 0 {
-            rest = *x;
-        } else {
-            if *x / 2 >= count {
-                return false;
-            }
-            rest -= 1;
+    let mut rest = row;
+    while let Some((length, behind)) = rest.split_first() {
+        let Some((clause, next)) = behind.split_at_checked(*length as usize) else {
+            return false;
+        };
+        if !are_allotted(count, clause) {
+            return false;
         }
+        rest = next;
     }
-    rest == 0
+    true
 }
 
 // Writes the clause behind the others, in room that was reserved.

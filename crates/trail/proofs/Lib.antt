@@ -1,2 +1,2 @@
-pub mod Opens
+pub mod Values
 pub mod Sounds

@@ -1,24 +1,40 @@
--- What each step does to a trail.
-use Rattle.std.specs.Prelude.{◌≡◌, ℕ, ◌+◌, ◌-◌, ◌/◌, ◌<◌, Bool, true, false, slice_index, slice_set}
-use Rattle.trail.specs.Trails.{Sound}
-use Rattle.trail.specs.declared.kept.Trail.{Trail}
+-- What each call does to a trail, and to a search.
+use Rattle.std.specs.Prelude.{◌≡◌, ℕ, ◌-◌, ◌/◌, ◌<◌, Bool, true, false, [], ◌∷◌, ◌++◌, length, take, slice_set}
+use Rattle.trail.specs.declared.step.Reason.{Reason}
+use Rattle.trail.specs.declared.step.Value.TheVariants.{Open}
+use Rattle.trail.specs.declared.trail.Trail.{Trail}
+use Rattle.trail.specs.declared.search.Search.{Search}
+use Rattle.trail.specs.Values.{Free, making}
+use Rattle.trail.specs.Trails.{literal_at}
 
-abbrev pub Steady : ((ℕ → Bool) → Bool) → Trail → Type 0
-Steady X t = Sound X t.val t.lits t.marks t.len
+pub record Put (t t' : Trail) (l : ℕ) (reason : Reason) : Type 0 where
+  pub values : t'.values ≡ slice_set t.values (l / 2) (making l)
+  pub positions : t'.positions ≡ slice_set t.positions (l / 2) (length t.steps.items)
+  pub level : ℕ
+  pub steps : t'.steps.items ≡ t.steps.items ++ record { literal = l; level = level; reason = reason } ∷ []
 
-pub record Placed (t t' : Trail) (l mark : ℕ) : Type 0 where
-  pub within : t.len < 4096
-  pub more : t'.len ≡ t.len + 1
-  pub lits : t'.lits ≡ slice_set t.lits t.len l
-  pub marks : t'.marks ≡ slice_set t.marks t.len mark
+pub record TakenLast (t t' : Trail) (l : ℕ) : Type 0 where
+  pub last : l ≡ literal_at t.steps.items (length t.steps.items - 1)
+  pub values : t'.values ≡ slice_set t.values (l / 2) Open
+  pub positions : t'.positions ≡ t.positions
+  pub steps : t'.steps.items ≡ take (length t.steps.items - 1) t.steps.items
 
-abbrev pub Pushed : Trail → Trail → ℕ → ℕ → Bool → Type 0
-Pushed t t' l mark true = Placed t t' l mark
-Pushed t t' l mark false = (t' ≡ t) × (1 < slice_index t.val (l / 2) → ⊥)
+pub record Placed (s s' : Search) (l : ℕ) (reason : Reason) : Type 0 where
+  pub within : length s.trail.steps.items < 4096
+  pub level : ℕ
+  pub steps : s'.trail.steps.items ≡ s.trail.steps.items ++ record { literal = l; level = level; reason = reason } ∷ []
+  pub facts : s'.facts ≡ s.facts
 
-pub record Popped (t t' : Trail) (l : ℕ) : Type 0 where
-  pub last : l ≡ slice_index t.lits (t.len - 1)
-  pub less : t'.len ≡ t.len - 1
-  pub lits : t'.lits ≡ t.lits
-  pub marks : t'.marks ≡ t.marks
-  pub val : t'.val ≡ slice_set t.val (l / 2) 2
+abbrev pub Pushed : Search → Search → ℕ → Reason → Bool → Type 0
+Pushed s s' l reason true = Placed s s' l reason
+Pushed s s' l reason false = (s' ≡ s) × (Free s.trail.values l → ⊥)
+
+pub record Popped (s s' : Search) (l : ℕ) : Type 0 where
+  pub last : l ≡ literal_at s.trail.steps.items (length s.trail.steps.items - 1)
+  pub steps : s'.trail.steps.items ≡ take (length s.trail.steps.items - 1) s.trail.steps.items
+  pub values : s'.trail.values ≡ slice_set s.trail.values (l / 2) Open
+  pub facts : s'.facts ≡ s.facts
+
+pub record Cleared (s s' : Search) : Type 0 where
+  pub steps : s'.trail.steps.items ≡ []
+  pub facts : s'.facts ≡ s.facts

@@ -1,55 +1,54 @@
--- A trail of literals over the ways that X allows, as lists: the variables' values, the literals, and their marks, of which
--- the first d count.
-use Rattle.std.specs.Prelude.{◌≡◌, ℕ, ◌+◌, ◌-◌, ◌*◌, ◌/◌, ◌%◌, ◌<◌, ◌≤◌, Bool, true, cond, List, [], ◌∷◌, length, take, ◌≢◌, nat_lt, slice_index}
+-- A trail of literals over the ways that X allows, as lists: the variables' values, where they stand, and the steps.
+use Rattle.std.specs.Prelude.{◌≡◌, ℕ, ◌+◌, ◌/◌, ◌<◌, ◌≤◌, Bool, true, List, length, map, ◌≢◌, slice_index, slice_index_or}
 use Rattle.chooser.specs.Ways.{lit}
-use Rattle.weight.specs.Weight.{weight, digits}
-use Rattle.implied.specs.Implied.{Below}
+use Rattle.weight.specs.Weight.{weight}
+use Rattle.trail.specs.declared.step.Value.{Value}
+use Rattle.trail.specs.declared.step.Reason.{Reason}
+use Rattle.trail.specs.declared.step.Reason.TheVariants.{Decision, Known, Clause}
+use Rattle.trail.specs.declared.step.Step.{Step}
+use Rattle.trail.specs.Values.{Holds, opens}
 
--- the first d literals are true
-abbrev pub Along : (ℕ → Bool) → List ℕ → ℕ → Type 0
-Along p lits d = (i : ℕ) → i < d → lit p (slice_index lits i) ≡ true
+abbrev pub step_at : List Step → ℕ → Step
+step_at steps j = slice_index_or steps j (record { literal = 0; level = 0; reason = Known })
 
--- an allowed way along the first d literals makes l true
-abbrev pub Follows : ((ℕ → Bool) → Bool) → List ℕ → ℕ → ℕ → Type 0
-Follows X lits d l = (p : ℕ → Bool) → X p ≡ true → Along p lits d → lit p l ≡ true
+abbrev pub literal_at : List Step → ℕ → ℕ
+literal_at steps j = (step_at steps j).literal
 
--- no allowed way is along the first d literals
-abbrev pub Dead : ((ℕ → Bool) → Bool) → List ℕ → ℕ → Type 0
-Dead X lits d = (p : ℕ → Bool) → X p ≡ true → Along p lits d → ⊥
+-- the first i literals are true
+abbrev pub Along : (ℕ → Bool) → List Step → ℕ → Type 0
+Along p steps i = (j : ℕ) → j < i → lit p (literal_at steps j) ≡ true
 
--- the values make the literal false
-abbrev pub Refuted : List ℕ → ℕ → Type 0
-Refuted val l = (l / 2 < length val) × (slice_index val (l / 2) ≡ l % 2)
+-- an allowed way along the first i literals makes l true
+abbrev pub Follows : ((ℕ → Bool) → Bool) → List Step → ℕ → ℕ → Type 0
+Follows X steps i l = (p : ℕ → Bool) → X p ≡ true → Along p steps i → lit p l ≡ true
 
-pub record Valued (val : List ℕ) (l r : ℕ) : Type 0 where
-  pub off : r ≡ 0 → Refuted val l
-  pub on : r ≡ 1 → (l / 2 < length val) × (slice_index val (l / 2) + l % 2 ≡ 1)
-  pub free : r ≡ 2 → 1 < slice_index val (l / 2)
-  pub shut : 1 < slice_index val (l / 2) → r ≡ 2
-  pub small : l / 2 < length val → r < 3
+-- no allowed way is along the steps
+abbrev pub Dead : ((ℕ → Bool) → Bool) → List Step → Type 0
+Dead X steps = (p : ℕ → Bool) → X p ≡ true → Along p steps (length steps) → ⊥
 
--- how many variables are open
-abbrev pub opens : List ℕ → ℕ
-opens [] = 0
-opens (x ∷ xs) = cond (nat_lt x 2) 0 1 + opens xs
-
-pub record Sound (X : (ℕ → Bool) → Bool) (val lits marks : List ℕ) (d : ℕ) : Type 0 where
-  pub wide : length val ≡ 4096
-  pub long : length lits ≡ 4096
-  pub deep : length marks ≡ 4096
+pub record Sound (X : (ℕ → Bool) → Bool) (values : List Value) (positions : List ℕ) (steps : List Step) : Type 0 where
+  pub wide : length values ≡ 4096
+  pub placed : length positions ≡ 4096
   -- a literal that is no decision follows from those before it
-  pub grounded : (j : ℕ) → j < d → (slice_index marks j ≢ 1) → Follows X lits j (slice_index lits j)
-  -- a value is that of a literal on the trail
-  pub shown : (v : ℕ) → v < 4096 → slice_index val v < 2 → (j : ℕ) × (j < d) × (slice_index lits j ≡ 2 * v + (1 - slice_index val v))
-  pub named : (j : ℕ) → j < d → slice_index lits j < 8192
-  pub good : digits (take d marks) ≡ true
+  pub grounded : (j : ℕ) → j < length steps → ((step_at steps j).reason ≢ Decision) → Follows X steps j (literal_at steps j)
+  -- a literal that is true stands at its variable's place
+  pub shown : (l : ℕ) → Holds values l → (slice_index positions (l / 2) < length steps) × (literal_at steps (slice_index positions (l / 2)) ≡ l)
+  pub named : (j : ℕ) → j < length steps → literal_at steps j < 8192
   -- an open variable leaves the trail a place
-  pub room : opens val + d ≤ 4096
+  pub room : opens values + length steps ≤ 4096
+
+-- the digit of a step in the trail's weight: 1 for a decision, 2 for a literal that follows
+abbrev pub digit : Reason → ℕ
+digit Decision = 1
+digit Known = 2
+digit (Clause c) = 2
+
+abbrev pub digits_of : List Step → List ℕ
+digits_of steps = map (λ (s : Step). digit s.reason) steps
 
 -- a trail that only grew, by literals that follow
-pub record Grew (marks lits : List ℕ) (d : ℕ) (marks' lits' : List ℕ) (d' : ℕ) : Type 0 where
-  pub more : d ≤ d'
-  pub same_marks : Below d marks marks'
-  pub same_lits : Below d lits lits'
-  pub forced : (j : ℕ) → d ≤ j → j < d' → slice_index marks' j ≡ 2
-  pub up : weight 4096 (take d marks) ≤ weight 4096 (take d' marks')
+pub record Grew (steps steps' : List Step) : Type 0 where
+  pub more : length steps ≤ length steps'
+  pub same : (j : ℕ) → j < length steps → step_at steps' j ≡ step_at steps j
+  pub forced : (j : ℕ) → length steps ≤ j → j < length steps' → (step_at steps' j).reason ≢ Decision
+  pub up : weight 4096 (digits_of steps) ≤ weight 4096 (digits_of steps')

@@ -1,17 +1,9 @@
-use Rattle.std.proofs.Common.{◌≡◌, ℕ, ◌-◌, ◌<◌, ◌≤◌, get_or}
-use Rattle.implied.specs.Implied.{allowed}
-use Rattle.trail.specs.Steps.{Steady}
-use Rattle.activity.specs.Cuts.{Free}
+use Rattle.std.proofs.Common.{◌≤◌, length}
+use Rattle.activity.specs.Cuts.{Kept}
 use Rattle.activity.proofs.unwind.Given as goal
 
-abbrev pub invariant-loop-t : goal.invariant-loop-t
-invariant-loop-t l =
-    Steady (allowed l.row) l.t
-    × (l.k ≤ l.t.len)
-    × (l.t.lits ≡ l.initial.t.lits)
-    × (l.t.marks ≡ l.initial.t.marks)
-    × ((j : ℕ) → l.t.len ≤ j → j < l.initial.t.len → Free l.t.val (get_or l.initial.t.lits j 0))
-    × (l.t.len ≤ l.initial.t.len)
+abbrev pub invariant-loop-order : goal.invariant-loop-order
+invariant-loop-order l = (l.k ≤ length l.search.trail.steps.items) × Kept l.initial.search l.search (length l.search.trail.steps.items)
 
-abbrev pub decreases-loop-t : goal.decreases-loop-t
-decreases-loop-t l = l.t.len - l.k
+abbrev pub decreases-loop-order : goal.decreases-loop-order
+decreases-loop-order l = length l.search.trail.steps.items

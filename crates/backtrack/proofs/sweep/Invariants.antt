@@ -1,13 +1,22 @@
--- What the pass has come to at the place; what is left of the assumptions and the row gets shorter.
-use Rattle.std.proofs.Common.{◌+◌, ◌-◌, length}
-use Rattle.backtrack.specs.Rest.{Rest}
-use Rattle.backtrack.specs.Swept.{Passing}
+-- What is known while assumptions and clauses are left.
+use Rattle.std.proofs.Common.{◌≡◌, ◌++◌, true, length, drop, vec_capacity}
+use Rattle.std.specs.List.{list_all}
+use Rattle.chooser.specs.Ways.{allotted}
+use Rattle.rows.specs.Rows.{clauses_of}
+use Rattle.rows.specs.Clauses.{clauses_left}
+use Rattle.backtrack.specs.Solved.{allowed}
+use Rattle.backtrack.specs.Swept.{Passing, singles}
 use Rattle.backtrack.proofs.sweep.Given as goal
 
-abbrev pub invariant-loop-at : goal.invariant-loop-at
-invariant-loop-at l =
-    Rest (length l.initial.values) l.row l.assumptions l.at
-    × Passing l.row l.assumptions l.at l.initial.marks l.from l.values l.trail l.marks l.depth l.«open»
+abbrev pub invariant-loop-l : goal.invariant-loop-l
+invariant-loop-l l =
+    Passing (allowed l.row l.assumptions) (singles (drop l.l-index l.assumptions) ++ clauses_of l.row) l.fn.trail.items l.values l.trail.items l.«open»
+    × (vec_capacity l.trail ≡ vec_capacity l.fn.trail)
 
-abbrev pub decreases-loop-at : goal.decreases-loop-at
-decreases-loop-at l = length l.assumptions + length l.row - l.at
+abbrev pub invariant-loop-clause : goal.invariant-loop-clause
+invariant-loop-clause l =
+    (goal.iterator-loop-clause).can_next l.clause-iterator
+    × (goal.iterator-loop-clause).is_finite l.clause-iterator
+    × Passing (allowed l.row l.assumptions) (clauses_left l.clause-iterator) l.fn.trail.items l.values l.trail.items l.«open»
+    × (list_all (allotted (length l.values)) (clauses_left l.clause-iterator) ≡ true)
+    × (vec_capacity l.trail ≡ vec_capacity l.fn.trail)

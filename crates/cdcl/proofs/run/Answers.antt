@@ -1,38 +1,39 @@
-use mathlib.Core.Path.{refl}
-use mathlib.Core.Logic.{inr}
-use Rattle.implied.specs.Implied.{allowed}
+use Rattle.std.proofs.Common.{◌≡◌, ◌-◌, ◌<◌, sym, inr, ◌∙◌, ap, subst, arith}
+use Rattle.trail.specs.declared.step.Reason.TheVariants.{Decision}
 use Rattle.decisions.proofs.Orders.{ordered_placed}
+use Rattle.cdcl_steps.specs.Search.{measure}
 use Rattle.cdcl_steps.proofs.Turns.{decided_less, jumped_less, restart_less, placed_from}
 use Rattle.cdcl.proofs.run.Goals as goal
 
-pub turn-preserved : goal.turn-preserved
-turn-preserved c = (c.backjump.ensures.stocked, c.advance.ensures.offs, c.backjump.ensures.steady, c.backjump.ensures.planned)
-
 pub turn-smaller : goal.turn-smaller
 turn-smaller c =
-    jumped_less (allowed c.args.row.now) c.turn.t c.advance.new.t c.backjump.new.t c.advance.ensures.grew c.backjump.ensures.steady c.turn.fuel c.advance.ensures.steady c.if-not-backjump.ensures.jumped
+    let t = c.turn.solver.search in
+    let v = c.backjump.new.self.search in
+    subst (λ f. measure f v.trail.steps.items < measure c.turn.restarts.left t.trail.steps.items) (sym c.count_clash.ensures)
+    (jumped_less t c.advance.new.self.search v c.advance.ensures.grew c.turn.restarts.left c.if-not-backjump.ensures.jumped)
 
 pub turn-preserved-in-Decide : goal.turn-preserved-in-Decide
 turn-preserved-in-Decide c =
-    let u = c.advance.new.t in
-    let v = c.push.new.t in
+    let u = c.advance.new.self.search in
+    let v = c.push.new.self in
     let plan = c.advance.new.plan in
     let chosen = c.in-Decide.ensures.chosen in
-    let p = (placed_from u v c.in-Decide.l 1 c.push.result c.push.ensures.pushed chosen.0).1 in (
-      c.turn.invariant.0,
-      c.advance.ensures.offs,
-      c.push.ensures.steady,
-      ordered_placed c.args.given.now u v plan.next plan.firm c.in-Decide.l 1 c.advance.ensures.steady.long c.advance.ensures.steady.deep p (inr chosen.1) c.advance.ensures.planned,
-    )
+    let p = (placed_from u v c.in-Decide.l Decision c.push.result c.push.ensures chosen.0).1 in
+    record {
+      store = ap (λ f. f.store) p.facts ∙ c.advance.ensures.store ∙ c.turn.invariant.store;
+      planned = ordered_placed c.args.given.now u v plan.next plan.firm c.in-Decide.l Decision p (inr chosen.1) c.advance.ensures.planned;
+    }
 
 pub turn-smaller-in-Decide : goal.turn-smaller-in-Decide
 turn-smaller-in-Decide c =
-    let u = c.advance.new.t in
-    let v = c.push.new.t in
+    let u = c.advance.new.self.search in
+    let v = c.push.new.self in
     let chosen = c.in-Decide.ensures.chosen in
-    let p = (placed_from u v c.in-Decide.l 1 c.push.result c.push.ensures.pushed chosen.0).1 in
-    decided_less (allowed c.args.row.now) c.turn.t u v c.advance.ensures.grew c.push.ensures.steady c.turn.fuel c.in-Decide.l c.advance.ensures.steady p
+    let p = (placed_from u v c.in-Decide.l Decision c.push.result c.push.ensures chosen.0).1 in
+    decided_less c.turn.solver.search u v c.advance.ensures.grew c.turn.restarts.left c.in-Decide.l p
 
-pub turn-smaller-then-fuel-gt0 : goal.turn-smaller-then-fuel-gt0
-turn-smaller-then-fuel-gt0 c =
-    restart_less (allowed c.args.row.now) c.turn.t c.restart.new.t c.turn.fuel _ c.turn.invariant.2 c.if-fuel-gt0.true refl
+pub turn-smaller-then-is_due : goal.turn-smaller-then-is_due
+turn-smaller-then-is_due c =
+    let some = c.is_due.ensures c.if-is_due.true in
+    let less = c.begin_next.ensures in
+    restart_less c.turn.solver.search c.restart.new.self.search c.turn.restarts.left c.begin_next.new.self.left some (omega arith)

@@ -1,18 +1,13 @@
--- Each clause is whole, its literals are allotted and its entries are left, so the chooser takes it.
-use Rattle.decide.proofs.Adds.{adding_none, adding_all, adding_more, adding_never, clause_fits}
+-- Each clause has allotted literals and its entries are left, so the chooser takes it.
+use Rattle.std.proofs.Common.{◌≡◌, ap, ◌∙◌, subst, sym}
+use Rattle.rows.specs.Rows.{clauses_of}
+use Rattle.rows.specs.Clauses.{clauses_left}
+use Rattle.decide.specs.Adding.{Adding}
+use Rattle.decide.proofs.Adds.{adding_none}
 use Rattle.decide.proofs.add_row.Goals as goal
 
-pub loop-at-init : goal.loop-at-init
-loop-at-init g c = adding_none (g.C.Chooser.meaning c.args.chooser.now) c.args.row.now c.requires.whole
-
-pub slice_bounds-add-end : goal.slice_bounds-add-end
-slice_bounds-add-end g c = clause_fits _ _ c.args.row.now c.loop-at.at c.loop-at.invariant c.loop-at-test.true
-
-pub loop-at-preserved : goal.loop-at-preserved
-loop-at-preserved g c = adding_more _ _ c.args.row.now c.loop-at.at c.loop-at.invariant c.loop-at-test.true _ c.in_ok-add.ensures
-
-pub returns : goal.returns
-returns g c = adding_all _ _ c.args.row.now c.loop-at.at c.loop-at-test.false c.loop-at.invariant
-
-pub returns-in_err-add : goal.returns-in_err-add
-returns-in_err-add g c = absurd (adding_never _ _ c.args.row.now c.loop-at.at c.loop-at.invariant c.loop-at-test.true c.in_err-add.field-0.0 c.requires.fits c.in_err-add.ensures.1)
+pub loop-clause-init : goal.loop-clause-init
+loop-clause-init g c =
+    let m = g.C.Chooser.meaning c.args.chooser.now in
+    let new : clauses_left c.into_iter-clause-iterator.result ≡ clauses_of c.args.row.now = ap clauses_left c.into_iter-clause-iterator.ensures.into_iter_gives ∙ c.new-clause-items.ensures in
+    (tt, tt, subst (Adding m m c.args.row.now) (sym new) (adding_none m c.args.row.now c.requires.whole))

@@ -1,10 +1,10 @@
--- The clauses before the place were added; what is left of the row gets shorter.
-use Rattle.std.proofs.Common.{◌-◌, length}
+-- What is known while clauses are left.
+use Rattle.rows.specs.Clauses.{clauses_left}
 use Rattle.decide.specs.Adding.{Adding}
 use Rattle.decide.proofs.add_row.Given as goal
 
-abbrev pub invariant-loop-at : goal.invariant-loop-at
-invariant-loop-at g l = Adding (g.C.Chooser.meaning l.initial.chooser) (g.C.Chooser.meaning l.chooser) l.row l.at
-
-abbrev pub decreases-loop-at : goal.decreases-loop-at
-decreases-loop-at g l = length l.row - l.at
+abbrev pub invariant-loop-clause : goal.invariant-loop-clause
+invariant-loop-clause g l =
+    (goal.iterator-loop-clause g).can_next l.clause-iterator
+    × (goal.iterator-loop-clause g).is_finite l.clause-iterator
+    × Adding (g.C.Chooser.meaning l.initial.chooser) (g.C.Chooser.meaning l.chooser) l.row (clauses_left l.clause-iterator)

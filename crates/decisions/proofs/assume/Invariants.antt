@@ -1,9 +1,6 @@
-use Rattle.std.proofs.Common.{◌-◌, length}
+use Rattle.std.proofs.Common.{◌≡◌, ◌+◌}
 use Rattle.decisions.specs.Plans.{Planned}
 use Rattle.decisions.proofs.assume.Given as goal
 
-abbrev pub invariant-loop-plan : goal.invariant-loop-plan
-invariant-loop-plan l = Planned l.given l.t l.plan
-
-abbrev pub decreases-loop-plan : goal.decreases-loop-plan
-decreases-loop-plan l = length l.given - l.plan.next
+abbrev pub invariant-loop-g : goal.invariant-loop-g
+invariant-loop-g l = record { planned : Planned l.given l.search.trail.steps.items l.plan; next : l.plan.next ≡ l.initial.plan.next + l.g-index }

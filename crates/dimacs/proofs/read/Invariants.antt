@@ -5,4 +5,4 @@ use Rattle.dimacs.specs.Read.{reading}
 use Rattle.dimacs.proofs.read.Given as goal
 
 abbrev pub invariant-loop-i : goal.invariant-loop-i
-invariant-loop-i l = feeds begin l.text 0 ≡ feeds (reading l.reader) (drop l.i l.text) l.i
+invariant-loop-i l = feeds begin l.text 0 ≡ feeds (reading l.reader) (drop l.i-counter l.text) l.i-counter

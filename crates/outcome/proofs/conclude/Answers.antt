@@ -1,28 +1,40 @@
-use Rattle.std.proofs.Common.{◌*◌, ◌/◌, ◌<◌, length, get_or, arith}
+use Rattle.std.proofs.Common.{◌≡◌, ℕ, List, true, ◌*◌, ◌/◌, ◌<◌, length, get_or, ap, ◌∙◌, sym, subst, arith}
+use Rattle.std.proofs.lemmas.Bool.{both_ways}
+use Rattle.std.proofs.lemmas.List.{get_or_default}
 use Rattle.rows.proofs.Lits.{bits_from, allotted_at}
+use Rattle.chooser.specs.Ways.{lit, written}
+use Rattle.rows.specs.Rows.{holds}
 use Rattle.implied.specs.Implied.{allowed}
-use Rattle.outcome.proofs.Checks.{copied_small, refuted_from, both_dead}
+use Rattle.trail.specs.Values.{value_at}
+use Rattle.outcome.proofs.Checks.{byte_small, refuted_from, both_dead}
 use Rattle.outcome.proofs.conclude.Goals as goal
 
-pub returns-then-i-given : goal.returns-then-i-given
-returns-then-i-given c =
-    let t = c.args.t.now in
+pub returns-then-not-is_open : goal.returns-then-not-is_open
+returns-then-not-is_open c =
+    let s = c.args.search.now in
+    let t = s.trail in
     let out = c.write.new.out in
-    let g = get_or c.args.given.now c.denied-i.result 0 in
-    let wide = c.requires.steady.wide in
+    let given = c.args.given.now in
+    let size = length c.args.out.now in
+    let g = c.in-Some-denied.g in
+    let missed = c.in-Some-denied.ensures in
+    let k = missed.among.0 in
+    let lt = missed.among.1 in
+    let is : get_or given k 0 ≡ g = get_or_default given k 0 g lt ∙ missed.among.2 in
+    let wide = s.steady.wide in
     let same = c.write.auto.out in
     let few = c.requires.few in
-    let below : g < 2 * length c.args.out.now = allotted_at (length c.args.out.now) c.args.given.now c.denied-i.result c.requires.named c.if-i-given.true in
-    let at = c.requires.assumed c.denied-i.result c.if-i-given.true in
-    both_dead (allowed c.args.row.now) t.val t.lits t.marks t.len c.requires.steady g at.0 at.1 at.2
-    (refuted_from t.val out g (c.write.ensures (g / 2) (omega arith)) (omega arith) (λ free. c.if-value-eq2.false (c.value.ensures.shut free)) (c.denied-i.ensures.fails c.if-i-given.true))
+    let below : get_or given k 0 < 2 * size = allotted_at size given k c.requires.named lt in
+    let at = c.requires.assumed k lt in
+    both_dead (allowed s.facts.store.row.items) t.values t.positions t.steps.items s.steady g at.0 at.1 (at.2 ∙ is)
+    (refuted_from t.values out g (c.write.ensures (g / 2) (omega arith)) (omega arith) (λ free. both_ways c.is_open.result c.if-not-is_open.true (c.is_open.ensures.shut free)) missed.off)
 
-pub returns : goal.returns
-returns c =
-    let t = c.args.t.now in
+pub returns-in_default-denied : goal.returns-in_default-denied
+returns-in_default-denied c =
+    let t = c.args.search.now.trail in
     let out = c.write.new.out in
     record {
-      binary = bits_from out (λ k lt. copied_small t.val out k (c.write.ensures k lt));
-      met = c.unmet-s.ensures.passes c.if-s-row.false;
-      agreed = c.denied-i.ensures.passes c.if-i-given.false;
+      binary = bits_from out (λ k lt. subst (λ z. z < 2) (sym (c.write.ensures k lt)) (byte_small (value_at t.values k)));
+      met = ap (λ (row : List ℕ). holds (lit (written out)) true 0 row) (sym c.row.ensures.value) ∙ c.in_default.ensures;
+      agreed = c.in_default-denied.ensures;
     }

@@ -1,39 +1,29 @@
--- One number more of the row: a length, or a literal.
-use Rattle.std.proofs.Common.{◌+◌, ◌-◌, ◌*◌, ◌&&◌, eqb, ltb, get_or, drop, sym, ap, ◌∙◌, arith}
-use Rattle.std.proofs.lemmas.Bool.{cond-true, cond-false, eq-eqb, ne_eqb, lt-ltb, le-ltb}
-use Rattle.std.proofs.lemmas.List.{at_drop_more, at_drop_all}
+-- A clause that is cut short, one with a literal that is not allotted, and one more that is whole.
+use Rattle.std.proofs.Common.{sym, ap, ◌∙◌}
+use Rattle.chooser.specs.Ways.{allotted}
 use Rattle.rows.specs.Rows.{inside}
+use Rattle.rows.proofs.Clauses.{inside_short, inside_strange, inside_next}
 use Rattle.rows.proofs.is_whole.Goals as goal
-use Rattle.rows.proofs.is_whole.Goals.{then-rest-eq0, else-rest-eq0+else-x-count}
 
-pub returns-then-x-count : goal.returns-then-x-count
-returns-then-x-count c =
+pub returns-in_default-split_at_checked : goal.returns-in_default-split_at_checked
+returns-in_default-split_at_checked c =
+    let first = c.in-Some.ensures.cases in
+    sym (c.loop-length.invariant ∙ ap (inside c.args.count 0) first.0 ∙ inside_short c.args.count c.in-Some.length.now c.in-Some.behind.now c.in_default-split_at_checked.ensures.cases)
+
+pub returns-then-not-are_allotted : goal.returns-then-not-are_allotted
+returns-then-not-are_allotted c =
     let v = c.args.count in
-    let row = c.args.row.now in
-    let i = c.loop-x.x-index in
-    let rest = c.loop-x.rest in
-    let x = get_or row i 0 in
-    let xs = drop (i + 1) row in
-    sym (c.loop-x.invariant ∙ at_drop_more (inside v rest) row i 0 c.loop-x-test.true
-    ∙ cond-false (eqb rest 0) (inside v x xs) (ltb x (2 * v) && inside v (rest - 1) xs) (ne_eqb rest 0 c.if-rest-eq0.false)
-    ∙ ap (λ b. b && inside v (rest - 1) xs) (le-ltb x (2 * v) (omega arith)))
+    let first = c.in-Some.ensures.cases in
+    let cut = c.in-Some-split_at_checked.ensures.cases in
+    sym
+    (c.loop-length.invariant ∙ ap (inside v 0) first.0
+    ∙ inside_strange v c.in-Some.length.now c.in-Some.behind.now (ap (allotted v) (sym cut.1) ∙ sym c.if-not-are_allotted.ensures))
 
-pub loop-x-preserved : goal.loop-x-preserved
-loop-x-preserved c =
+pub loop-length-preserved : goal.loop-length-preserved
+loop-length-preserved c =
     let v = c.args.count in
-    let row = c.args.row.now in
-    let i = c.loop-x.x-index in
-    let rest = c.loop-x.rest in
-    let x = get_or row i 0 in
-    let xs = drop (i + 1) row in
-    c.loop-x.invariant ∙ at_drop_more (inside v rest) row i 0 c.loop-x-test.true
-    ∙ elim c.if-rest-eq0.branch [
-      | then-rest-eq0 w ↦ cond-true (eqb rest 0) (inside v x xs) (ltb x (2 * v) && inside v (rest - 1) xs) (eq-eqb rest 0 w.if-rest-eq0.true) ∙ ap (λ k. inside v k xs) (sym w.rest-is)
-      | else-rest-eq0+else-x-count w ↦
-          cond-false (eqb rest 0) (inside v x xs) (ltb x (2 * v) && inside v (rest - 1) xs) (ne_eqb rest 0 w.if-rest-eq0.false)
-          ∙ ap (λ b. b && inside v (rest - 1) xs) (lt-ltb x (2 * v) (let h = w.if-x-count.false in omega arith))
-          ∙ ap (λ k. inside v k xs) (sym w.rest-is)
-    ]
-
-pub returns : goal.returns
-returns c = sym (c.loop-x.invariant ∙ at_drop_all (inside c.args.count c.loop-x.rest) c.args.row.now c.loop-x.x-index c.loop-x-test.false)
+    let first = c.in-Some.ensures.cases in
+    let cut = c.in-Some-split_at_checked.ensures.cases in
+    c.loop-length.invariant ∙ ap (inside v 0) first.0
+    ∙ inside_next v c.in-Some.length.now c.in-Some.behind.now cut.0 (ap (allotted v) (sym cut.1) ∙ sym c.if-not-are_allotted.ensures)
+    ∙ ap (inside v 0) (sym cut.2)

@@ -1,7 +1,10 @@
--- What is left of the row, with the literals still due of its clause, decides the answer.
-use Rattle.std.proofs.Common.{◌≡◌, drop}
+-- What is left of the row decides the answer.
+use Rattle.std.proofs.Common.{◌≡◌, length}
 use Rattle.rows.specs.Rows.{inside}
 use Rattle.rows.proofs.is_whole.Given as goal
 
-abbrev pub invariant-loop-x : goal.invariant-loop-x
-invariant-loop-x l = inside l.count 0 l.row ≡ inside l.count l.rest (drop l.x-index l.row)
+abbrev pub invariant-loop-length : goal.invariant-loop-length
+invariant-loop-length l = inside l.count 0 l.row ≡ inside l.count 0 l.rest
+
+abbrev pub decreases-loop-length : goal.decreases-loop-length
+decreases-loop-length l = length l.rest

@@ -1,0 +1,7 @@
+use Rattle.std.proofs.Common.{◌≡◌, ℕ, Bool, true}
+use Rattle.implied.specs.Implied.{allowed}
+use Rattle.analyze.proofs.Draws.{Walked}
+use Rattle.analyze.proofs.analyzer.Analyzer.walk.Given as goal
+
+abbrev pub invariant-loop-i : goal.invariant-loop-i
+invariant-loop-i l = (p : ℕ → Bool) → allowed l.search.facts.store.row.items p ≡ true → Walked p l.search.trail.steps.items l.self.seen.items l.self.clause.items l.i

@@ -1,8 +1,0 @@
--- The values before the place are closed, and the others are as they were.
-use Rattle.std.proofs.Common.{◌≡◌, ℕ, ◌<◌, ◌≤◌, cond, eqb, get_or}
-use Rattle.backtrack.proofs.trail.finish.Given as goal
-
-abbrev pub invariant-loop-i : goal.invariant-loop-i
-invariant-loop-i l =
-    ((k : ℕ) → k < l.i → get_or l.values k 0 ≡ cond (eqb (get_or l.initial.values k 0) 2) 0 (get_or l.initial.values k 0))
-    × ((k : ℕ) → l.i ≤ k → get_or l.values k 0 ≡ get_or l.initial.values k 0)

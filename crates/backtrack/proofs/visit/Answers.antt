@@ -1,0 +1,20 @@
+-- A clause that leaves one literal.
+use Rattle.std.proofs.Common.{◌/◌, ◌<◌, length, arith}
+use Rattle.backtrack.proofs.Values.{opens_shut}
+use Rattle.backtrack.proofs.Passes.{pass_push}
+use Rattle.backtrack.proofs.visit.Goals as goal
+
+pub push-requires-clause-room : goal.push-requires-clause-room
+push-requires-clause-room c =
+    let h = c.in-Forced.ensures.0 in
+    let below : c.in-Forced.l / 2 < length c.args.values.now = let a = h.0 in omega arith in
+    let v = c.args.trail.now in
+    let long = v.ok in
+    let room = c.requires.room in
+    omega (arith, opens_shut c.args.values.now (c.in-Forced.l / 2) 0 below h.1 (λ e. omega arith))
+
+pub returns-in-Forced-clause-visited : goal.returns-in-Forced-clause-visited
+returns-in-Forced-clause-visited c X left start o now =
+    let told = c.in-Forced.ensures in
+    let made = c.push.ensures in
+    rw (made.values, made.trail) (pass_push X c.args.clause.now left start c.args.values.now c.args.trail.now.items o now c.in-Forced.l told.0 told.1)

@@ -1,0 +1,70 @@
+ghost use Rattle.std.specs.Prelude.{◌≡◌, true};
+ghost use Rattle.implied.specs.Implied.{allowed};
+ghost use Rattle.trail.specs.Trails.{Dead};
+ghost use Rattle.analyze.specs.Analysis.{Drawn};
+ghost use Rattle.decisions.specs.Plans.{Planned};
+ghost use Rattle.cdcl_steps.specs.Search.{Jumps};
+
+use crate::solver::Solver;
+use decisions::{Plan, cut_back};
+use trail::Reason;
+
+impl Solver {
+    // Returns whether the drawn clause can be learned, so that there is room for what is added later.
+    fn has_room(&self) -> bool {
+        let pool = &self.search.facts.pool;
+        let wanted = self
+            .tally
+            .reserved
+            .saturating_add(self.analyzer.clause.len());
+        pool.numbers_left() > wanted && pool.clauses_left() > self.tally.reserved / 3
+    }
+
+    // Puts the drawn clause into the pool, if there is room. Returns its number.
+    fn learn(&mut self, glue: u16) -> Option<u32>
+        requires { Drawn (allowed self.old.search.facts.store.row.items) self.old.analyzer.clause.items }
+        ensures store { self.new.search.facts.store ≡ self.old.search.facts.store }
+        ensures trail { self.new.search.trail ≡ self.old.search.trail }
+    {
+        if !self.has_room() {
+            // The next restart forgets.
+            self.tally.limit = 0;
+            return None;
+        }
+        let analyzer = &self.analyzer;
+        let clause = analyzer.clause.as_slice();
+        let c = self.search.facts.learn(clause)?;
+        self.watches
+            .watch_first(c, clause, self.tally.clashes, glue);
+        self.tally.learned = self.tally.learned.saturating_add(1);
+        Some(c)
+    }
+
+    // Draws what the clash teaches, jumps back and puts the clause's first literal on the trail. Returns false where no way is
+    // allowed at all.
+    pub fn backjump(&mut self, given: &[u16], plan: &mut Plan) -> bool
+        requires planned { Planned given.now self.old.search.trail.steps.items plan.old }
+        requires dead { Dead (allowed self.old.search.facts.store.row.items) self.old.search.trail.steps.items }
+        ensures store { self.new.search.facts.store ≡ self.old.search.facts.store }
+        ensures planned { Planned given.now self.new.search.trail.steps.items plan.new }
+        ensures jumped { Jumps self.old.search self.new.search result }
+    {
+        let Some(k) = self.analyzer.analyze(&self.search, plan.clash) else {
+            return false;
+        };
+        let now = self.tally.clashes.wrapping_add(1);
+        self.tally.clashes = now;
+        let analyzer = &mut self.analyzer;
+        let search = &self.search;
+        let first = analyzer.clause[0];
+        let glue = analyzer.glue(&search.trail, now);
+        self.watches.note_use(&search.trail, &analyzer.seen, now);
+        self.order.reward(&search.trail, &mut analyzer.seen);
+        cut_back(&mut self.search, given, &mut self.order, plan, k);
+        let reason = match self.learn(glue) {
+            Some(c) => Reason::Clause(c),
+            None => Reason::Known,
+        };
+        self.search.push(first, reason)
+    }
+}

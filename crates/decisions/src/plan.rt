@@ -1,0 +1,13 @@
+// How far a search has come.
+#[derive(Clone, Copy, PartialEq, Eq, Debug)]
+pub struct Plan {
+    // The assumptions before `next` are on the trail, before the place `firm`. Other decisions stand behind `firm`, once every
+    // assumption is on the trail.
+    pub next: usize,
+    pub firm: usize,
+    // The literals from the place `queue` on are still to be propagated; those before `fixed` are marked known, at level 0.
+    pub queue: usize,
+    pub fixed: usize,
+    // The clause that is false, after a clash.
+    pub clash: Option<u32>,
+}

@@ -1,0 +1,110 @@
+ghost use Rattle.std.specs.Prelude.{◌≡◌, ℕ, ◌+◌, ◌^◌, ◌<◌, ◌≤◌, Bool, true, false, [], ◌∷◌, ◌++◌, length, IfOk, is_ok, if◌then◌else◌};
+ghost use Rattle.chooser.specs.Ways.{lit, some};
+ghost use Rattle.implied.specs.Implied.{allowed, Met, Off};
+
+use crate::pool::Pool;
+use chooser::Fault;
+use rows::{ClauseStore, turned};
+use std::alloc::{AllocError, Global};
+use std::mem::swap;
+
+// What is known of the allowed ways.
+#[derive(Drop)]
+pub struct Facts {
+    // The clauses that were added.
+    pub store: ClauseStore,
+    // Clauses that every allowed way meets, added and learned ones.
+    pub pool: Pool,
+    // Of each literal, whether every allowed way makes it false, as far as is known.
+    off: Vec<bool>,
+    ghost met: { Met (allowed store.row.items) pool },
+    ghost offs: { Off (allowed store.row.items) off.items },
+}
+
+impl Facts {
+    ghost use Rattle.chooser.specs.Steps.{NewVariable, Add};
+    ghost use Rattle.rows.specs.Store.{store_means, Spent};
+
+    // Knows nothing but what the store has, which is empty. The pool has room for so many numbers and clauses.
+    pub fn new(
+        heap: Global,
+        store: ClauseStore,
+        numbers: usize,
+        clauses: usize,
+    ) -> Result<Facts, AllocError>
+        ensures { IfOk result (λ f. f.store ≡ store) }
+    {
+        Ok(Facts {
+            store,
+            pool: Pool::new(heap, numbers, clauses)?,
+            off: vec![in heap; false; 8192]?,
+        })
+    }
+
+    // Returns whether it is known that every allowed way makes the literal false.
+    pub fn is_off(&self, l: u16) -> bool
+        ensures { result ≡ true → (p : ℕ → Bool) → allowed self.now.store.row.items p ≡ true → lit p l ≡ false }
+    {
+        let l = l as usize;
+        l < self.off.len() && self.off[l]
+    }
+
+    // Marks the literal known true: its opposite is off.
+    pub fn mark_true(&mut self, l: u16)
+        requires { (p : ℕ → Bool) → allowed self.old.store.row.items p ≡ true → lit p l ≡ true }
+        ensures { self.new.store ≡ self.old.store }
+    {
+        let t = turned(l) as usize;
+        if t < self.off.len() {
+            self.off[t] = true;
+        }
+    }
+
+    // Marks the literal `l` known true, if the clause `c` shows it: each other literal of the clause is off.
+    pub fn fix(&mut self, c: u32, l: u16)
+        ensures { self.new.store ≡ self.old.store }
+    {
+        let Some(clause) = self.pool.clause(c) else {
+            return;
+        };
+        for m in clause {
+            if *m != l && !self.is_off(*m) {
+                return;
+            }
+        }
+        self.mark_true(l);
+    }
+
+    // Puts a clause into the pool that every allowed way meets, and returns its number; None where there is no room.
+    pub fn learn(&mut self, clause: &[u16]) -> Option<u32>
+        requires { (p : ℕ → Bool) → allowed self.old.store.row.items p ≡ true → some (lit p) clause.now ≡ true }
+        ensures { self.new.store ≡ self.old.store }
+    {
+        self.pool.push(clause)
+    }
+
+    // Has the clauses of `spare` in place of those in the pool, which `spare` then has.
+    pub fn exchange(&mut self, spare: &mut Pool)
+        requires { Met (allowed self.old.store.row.items) spare.old }
+        ensures { self.new.store ≡ self.old.store }
+    {
+        swap(&mut self.pool, spare);
+    }
+
+    // Allots a variable and returns its number.
+    pub fn new_variable(&mut self) -> Result<u16, Fault>
+        ensures grows { NewVariable (store_means self.old.store) (store_means self.new.store) result }
+        ensures row { self.new.store.row.items ≡ self.old.store.row.items }
+    {
+        self.store.new_variable()
+    }
+
+    // Puts the clause into the store. What is known of the allowed ways is known of those that are left.
+    pub fn add(&mut self, clause: &[u16]) -> Result<(), Fault>
+        ensures adds { Add (store_means self.old.store) (store_means self.new.store) clause.now result }
+        ensures spends { Spent (store_means self.old.store) (store_means self.new.store) clause.now result }
+        ensures row { self.new.store.row.items ≡ (if is_ok result then self.old.store.row.items ++ (length clause.now ∷ clause.now) else self.old.store.row.items) }
+    {
+        self.store.add(clause)
+    }
+}

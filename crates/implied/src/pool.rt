@@ -1,0 +1,90 @@
+ghost use Rattle.std.specs.Prelude.{◌≡◌, ℕ, ◌^◌, ◌<◌, List, [], ◌∷◌, ◌++◌, length, map, slice_index_or, IfOk, IfSome, MatchOption};
+ghost use Rattle.implied.specs.Lying.{clause_at, Lying};
+
+use rows::push_clause;
+use std::alloc::{AllocError, Global};
+use std::marker::Model;
+
+// A list of clauses in room that is reserved once: they lie one after another in a run of numbers, each as its length and then
+// its literals, and `starts` has where each of them starts.
+#[derive(Drop)]
+pub struct Pool {
+    numbers: Vec<u16>,
+    starts: Vec<u32>,
+}
+
+impl Model for Pool {
+    ghost Value = { List (List ℕ) };
+
+    ghost view = { λ p. map (clause_at p.numbers.items) p.starts.items };
+
+    ghost invariant = { λ p. Lying p.numbers.items p.starts.items };
+}
+
+impl Pool {
+    // Makes an empty pool with room for so many numbers and clauses.
+    pub fn new(heap: Global, numbers: usize, clauses: usize) -> Result<Pool, AllocError>
+        ensures { IfOk result (λ p. p ≡ []) }
+    {
+        Ok(Pool {
+            numbers: Vec::with_capacity(heap, numbers)?,
+            starts: Vec::with_capacity(heap, clauses)?,
+        })
+    }
+
+    pub fn len(&self) -> usize
+        ensures { result ≡ length self.now }
+    {
+        self.starts.len()
+    }
+
+    // Returns how many numbers are left, and how many clauses.
+    pub fn numbers_left(&self) -> usize {
+        self.numbers.capacity() - self.numbers.len()
+    }
+
+    pub fn clauses_left(&self) -> usize {
+        self.starts.capacity() - self.starts.len()
+    }
+
+    // Returns the literals of the clause `c`.
+    pub fn clause(&self, c: u32) -> Option<&[u16]>
+        ensures clause { IfSome result (λ ls. (c < length self.now) × (ls.now ≡ slice_index_or self.now c [])) }
+        ensures short { IfSome result (λ ls. length ls.now < 2 ^ 16) }
+    {
+        let c = c as usize;
+        if c >= self.starts.len() {
+            return None;
+        }
+        let first = self.starts[c] as usize + 1;
+        let len = self.numbers[first - 1] as usize;
+        Some(&self.numbers[first..first + len])
+    }
+
+    // Puts a clause behind the others, and returns its number. Without room for it, the pool stays as it is.
+    pub fn push(&mut self, clause: &[u16]) -> Option<u32>
+        ensures { MatchOption result (self.new ≡ self.old) (λ c. (c ≡ length self.old) × (self.new ≡ self.old ++ clause.now ∷ [])) }
+    {
+        let c = self.starts.len();
+        let start = self.numbers.len();
+        if c >= self.starts.capacity()
+            || self.numbers.capacity() - start <= clause.len()
+            || clause.len() > 65535
+            || start > 4294967295
+            || c > 4294967295
+        {
+            return None;
+        }
+        self.starts.push_reserved(start as u32);
+        push_clause(&mut self.numbers, clause);
+        Some(c as u32)
+    }
+
+    // Takes all clauses out.
+    pub fn clear(&mut self)
+        ensures { self.new ≡ [] }
+    {
+        self.numbers.clear();
+        self.starts.clear();
+    }
+}

@@ -1,0 +1,148 @@
+ghost use Rattle.std.specs.Prelude.{◌≡◌, ◌-◌, ◌/◌, ◌<◌, true, [], length, replicate, vec_capacity, IfOk, IfSome};
+ghost use Rattle.rows.specs.Lits.{Turned};
+ghost use Rattle.trail.specs.Trails.{step_at, literal_at};
+ghost use Rattle.trail.specs.Values.{Refuted, Holds, Valued};
+
+use crate::step::{Reason, Step, Value, making};
+use rows::turned;
+use std::alloc::{AllocError, Global};
+
+// Literals in the order in which they were put, and what is known of each variable.
+#[derive(Drop)]
+pub struct Trail {
+    pub values: [Value; 4096],
+    // Where each variable that has a value stands among the steps.
+    pub positions: [u16; 4096],
+    pub steps: Vec<Step>,
+    // The place of each decision.
+    pub decisions: Vec<u16>,
+    ghost room: { vec_capacity steps ≡ 4096 },
+    ghost levels: { vec_capacity decisions ≡ 4096 },
+}
+
+impl Trail {
+    ghost use Rattle.trail.specs.Steps.{Put, TakenLast};
+
+    // Makes an empty trail: every variable is open.
+    pub fn new(heap: Global) -> Result<Trail, AllocError>
+        ensures steps { IfOk result (λ t. t.steps.items ≡ []) }
+        ensures values { IfOk result (λ t. t.values ≡ replicate 4096 Value.Open) }
+        ensures placed { IfOk result (λ t. length t.positions ≡ 4096) }
+    {
+        Ok(Trail {
+            values: [Value::Open; 4096],
+            positions: [0; 4096],
+            steps: Vec::with_capacity(heap, 4096)?,
+            decisions: Vec::with_capacity(heap, 4096)?,
+        })
+    }
+
+    // Returns whether the literal is false.
+    pub fn is_false(&self, l: u16) -> bool
+        ensures { result ≡ true → Refuted self.now.values l }
+    {
+        let v = (l / 2) as usize;
+        v < 4096 && self.values[v] == making(turned(l))
+    }
+
+    // Returns whether the literal is true.
+    pub fn is_true(&self, l: u16) -> bool
+        ensures { result ≡ true → Holds self.now.values l }
+    {
+        let v = (l / 2) as usize;
+        v < 4096 && self.values[v] == making(l)
+    }
+
+    // Returns whether the literal is true, false or open; None for what is no literal of a variable.
+    pub fn value(&self, l: u16) -> Option<Value>
+        ensures { Valued self.now.values l result }
+    {
+        let v = (l / 2) as usize;
+        if v >= 4096 {
+            return None;
+        }
+        let value = self.values[v];
+        Some(if value == Value::Open {
+            Value::Open
+        } else if value == making(l) {
+            Value::True
+        } else {
+            Value::False
+        })
+    }
+
+    // Returns the step at the place `j`.
+    pub fn step(&self, j: usize) -> Step
+        requires { j < length self.now.steps.items }
+        ensures { result ≡ step_at self.now.steps.items j }
+    {
+        self.steps[j]
+    }
+
+    // Returns where the opposite of the literal stands.
+    pub fn place_against(&self, l: u16) -> Option<usize>
+        ensures { IfSome result (λ j. (j < length self.now.steps.items) × Turned (literal_at self.now.steps.items j) l) }
+    {
+        let v = (l / 2) as usize;
+        if v >= 4096 {
+            return None;
+        }
+        let j = self.positions[v] as usize;
+        if j < self.steps.len() && self.step(j).literal == turned(l) {
+            Some(j)
+        } else {
+            None
+        }
+    }
+
+    // Returns how many decisions were made.
+    pub fn levels(&self) -> u16 {
+        self.decisions.len() as u16
+    }
+
+    // Puts the literal behind the others, and gives its variable the value that makes it true.
+    pub(crate) fn put(&mut self, l: u16, reason: Reason)
+        requires small { l / 2 < 4096 }
+        requires room { length self.old.steps.items < 4096 }
+        ensures { Put self.old self.new l reason }
+    {
+        let v = (l / 2) as usize;
+        let place = self.steps.len() as u16;
+        if reason == Reason::Decision && self.decisions.len() < 4096 {
+            self.decisions.push_reserved(place);
+        }
+        let level = self.levels();
+        self.values[v] = making(l);
+        self.positions[v] = place;
+        self.steps.push_reserved(Step {
+            literal: l,
+            level,
+            reason,
+        });
+    }
+
+    // Takes the last literal away and returns it; its variable is open.
+    pub(crate) fn take_last(&mut self) -> u16
+        requires some { 0 < length self.old.steps.items }
+        requires named { literal_at self.old.steps.items (length self.old.steps.items - 1) < 8192 }
+        ensures { TakenLast self.old self.new result }
+    {
+        let step = self.steps.pop().unwrap();
+        if step.is_decision() {
+            let _ = self.decisions.pop();
+        }
+        self.values[(step.literal / 2) as usize] = Value::Open;
+        step.literal
+    }
+
+    // Takes all literals away: every variable is open.
+    pub(crate) fn clear(&mut self)
+        ensures steps { self.new.steps.items ≡ [] }
+        ensures values { self.new.values ≡ replicate 4096 Value.Open }
+        ensures positions { self.new.positions ≡ self.old.positions }
+    {
+        self.steps.clear();
+        self.decisions.clear();
+        self.values = [Value::Open; 4096];
+    }
+}
