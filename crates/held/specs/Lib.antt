@@ -1,3 +1,4 @@
 pub mod Explanations
 pub mod Reading
 pub mod Standing
+pub mod Growing
