@@ -6,12 +6,8 @@ use Rattle.judging.specs.Held.{Held, hold, free, Helds, h[], ◌h∷◌, missing
 use Rattle.held.specs.declared.places.Held.{Held as Code}
 use Rattle.held.specs.declared.places.Held.TheVariants.{Missing, Term as At, Unknown}
 use Rattle.held.specs.declared.places.Place.{Place}
+use Rattle.held.specs.Links.{above}
 use Rattle.held.specs.Standing.{no_place, place_at, down, hlength, Stands, Binds, Env, Row, Same}
-
--- how many places there are up to the one that a link goes to
-abbrev pub above : Option ℕ → ℕ
-above None = 0
-above (Some i) = i + 1
 
 pub no_link : (m : List Place) (i : ℕ) → length m ≤ i → no_place ≡ place_at m (Some i)
 no_link m i h = sym (get_or_past m i no_place h)

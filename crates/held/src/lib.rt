@@ -2,5 +2,6 @@
 #![tactic(auto)]
 
 pub mod explanation;
+pub mod links;
 pub mod memory;
 pub mod places;

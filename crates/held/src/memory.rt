@@ -5,6 +5,7 @@ ghost use Rattle.held.specs.Reading.{Text, Reads};
 ghost use Rattle.held.specs.Standing.{no_place, place_at, down, hlength, Stands, Env, Row};
 ghost use Rattle.held.specs.Growing.{Grown};
 
+use crate::links::Link;
 use crate::places::{Held, Place};
 
 // Places, of which those below `top` are in use.
@@ -23,18 +24,29 @@ impl<'a> Memory<'a> {
         Memory { places, top: 0 }
     }
 
-    // The place with this index; where there is none, a blank one.
-    pub fn linked(&self, link: Option<usize>) -> Place
+    // The place that a link goes to; where there is none, a blank one.
+    pub fn linked(&self, link: Link) -> Place
         ensures { result ≡ place_at self.now.places.now link }
     {
-        match link {
+        match link.index() {
             Some(index) if index < self.places.len() => self.places[index],
             _ => Place::BLANK,
         }
     }
 
+    // The argument that stands at a place; where there is no such place, none that a typed term comes to.
+    pub fn argument(&self, place: usize) -> Held
+        ensures { result ≡ (slice_index_or self.now.places.now place no_place).held }
+    {
+        if place < self.places.len() {
+            self.places[place].held
+        } else {
+            Held::Missing
+        }
+    }
+
     // What is held after so many links down.
-    fn walk(&self, env: Option<usize>, count: usize) -> Held
+    fn walk(&self, env: Link, count: usize) -> Held
         ensures { result ≡ (place_at self.now.places.now (down self.now.places.now env count)).held }
     {
         let mut link = env;
@@ -45,7 +57,7 @@ impl<'a> Memory<'a> {
     }
 
     // What a variable is bound to. Variables count from the oldest binding, and links go from the newest.
-    pub fn lookup(&self, env: Option<usize>, variable: u8) -> Held
+    pub fn lookup(&self, env: Link, variable: u8) -> Held
         ensures { (x : Text) (top : ℕ) (ρ : Helds ℕ) → Env (Reads x) self.now.places.now top env ρ → Stands (Reads x) self.now.places.now top result (bound ρ variable) }
     {
         let size = self.linked(env).size;
@@ -68,7 +80,7 @@ impl<'a> Memory<'a> {
     }
 
     // Binds what is held to the next variable of an environment, in the next place, and gives the environment that comes of it.
-    pub fn push(&mut self, held: Held, env: Option<usize>) -> Option<usize>
+    pub fn push(&mut self, held: Held, env: Link) -> Link
         requires { self.old.top < length self.old.places.now }
         ensures grown { Grown 1 self.old self.new }
         ensures top { self.new.top ≡ self.old.top + 1 }
@@ -82,11 +94,11 @@ impl<'a> Memory<'a> {
             next: env,
             size,
         });
-        Some(link)
+        Link::to(link)
     }
 
     // Binds the arguments in a row to the next variables of an environment.
-    pub fn bind(&mut self, start: usize, count: u8, env: Option<usize>) -> Option<usize>
+    pub fn bind(&mut self, start: usize, count: u8, env: Link) -> Link
         requires { self.old.top + count ≤ length self.old.places.now }
         ensures grown { Grown count self.old self.new }
         ensures bound { (x : Text) (xs ρ : Helds ℕ) → count ≡ hlength xs → Row (Reads x) self.old.places.now self.old.top start xs → Env (Reads x) self.old.places.now self.old.top env ρ → Env (Reads x) self.new.places.now self.new.top result (ρ h++ xs) }

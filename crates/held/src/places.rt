@@ -1,12 +1,14 @@
 // Held terms as the code has them, and the places that hold them.
 
+use crate::links::Link;
+
 // A held term: a term, by its place in the problem's bytes, with its environment; or an unknown, by its number.
 // `Missing` is the term false in any environment: what is held where no typed term comes to.
-// An environment is the index of the place of its newest binding, and none where nothing is bound.
+// An environment is the link to its newest binding, and to none where nothing is bound.
 #[derive(Clone, Copy)]
 pub enum Held {
     Missing,
-    Term { place: usize, env: Option<usize> },
+    Term { place: usize, env: Link },
     Unknown(u16),
 }
 
@@ -15,7 +17,7 @@ pub enum Held {
 #[derive(Clone, Copy)]
 pub struct Place {
     pub held: Held,
-    pub next: Option<usize>,
+    pub next: Link,
     pub size: usize,
 }
 
@@ -23,7 +25,7 @@ impl Place {
     // A place with nothing in it.
     pub const BLANK: Place = Place {
         held: Held::Missing,
-        next: None,
+        next: Link::NONE,
         size: 0,
     };
 }

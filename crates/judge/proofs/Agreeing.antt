@@ -62,6 +62,9 @@ module _ (R : ℕ → Term → Type 0) (m : List Place) (top : ℕ) where
   stands_term x p e (free u) q s = absurd (subst (λ (y : Code). Stands R m top y (free u)) q s)
   stands_term x p e (hold t ρ) q s = let r = subst (λ (y : Code). Stands R m top y (hold t ρ)) q s in (t, ρ, refl, r.0, r.1)
 
+pub stands_is : (R : ℕ → Term → Type 0) (m : List Place) (top : ℕ) (h : Held ℕ) (x y : Code) → x ≡ y → Stands R m top y h → Stands R m top x h
+stands_is R m top h x y e s = subst (λ (z : Code). Stands R m top z h) (sym e) s
+
 pub by : {x : Text} {l : Left} {a b : List ℕ} {r : Option CodeHead} {o q : Maybe (Head ℕ × ℕ)} → o ≡ q → Agrees x l a b r o → Agrees x l a b r q
 by {x} {l} {a} {b} {r} e h = subst (λ (o : Maybe (Head ℕ × ℕ)). Agrees x l a b r o) e h
 

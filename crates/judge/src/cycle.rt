@@ -9,6 +9,7 @@ use crate::judge::Judge;
 use crate::left::Left;
 use crate::outcomes::{and_true, and_waits, negate, past_same, past_wait, truth};
 use held::explanation::Explanation;
+use held::links::Link;
 use held::places::Held;
 use problem::view::View;
 
@@ -39,7 +40,7 @@ impl<D: Decides> Judge<'_, D> {
         left: &mut Left,
         because: &mut Explanation,
         place: usize,
-        env: Option<usize>,
+        env: Link,
     ) -> Option<Head>
         requires { HasRoom 6 left.old }
         ensures kept { Kept 6 left.old left.new }
@@ -63,7 +64,7 @@ impl<D: Decides> Judge<'_, D> {
             } => {
                 let start = left.memory.top;
                 let count = arity.min(6);
-                self.hold_terms(&mut left.memory, arguments, count, env, None);
+                self.hold_terms(&mut left.memory, arguments, count, env, Link::NONE);
                 Some(Head::Is {
                     start,
                     constructor,
@@ -76,7 +77,7 @@ impl<D: Decides> Judge<'_, D> {
                 arguments,
             } => {
                 let count = arity.min(6);
-                let env = self.hold_terms(&mut left.memory, arguments, count, env, None);
+                let env = self.hold_terms(&mut left.memory, arguments, count, env, Link::NONE);
                 let place = self.problem.body(function);
                 let body = Held::Term { place, env };
                 self.head(left, because, body)
@@ -107,7 +108,7 @@ impl<D: Decides> Judge<'_, D> {
         because: &mut Explanation,
         ty: u8,
         subject: usize,
-        env: Option<usize>,
+        env: Link,
     ) -> Option<Head>
         requires { HasRoom 6 left.old }
         ensures kept { Kept 6 left.old left.new }
@@ -140,7 +141,7 @@ impl<D: Decides> Judge<'_, D> {
         because: &mut Explanation,
         a: usize,
         b: usize,
-        env: Option<usize>,
+        env: Link,
     ) -> Option<Head>
         requires { HasRoom 0 left.old }
         ensures kept { Kept 0 left.old left.new }
@@ -226,6 +227,8 @@ impl<D: Decides> Judge<'_, D> {
     }
 
     // Two rows of arguments in order, past pairs that wait, up to the first that differ.
+    // Kept as it is: a verdict is made of that of the later arguments, as in the definition. A loop would carry the first
+    // pair that waits and an explanation of its own beside, and is no plainer.
     #[cycle(judging)]
     fn arguments(
         &self,
@@ -243,8 +246,8 @@ impl<D: Decides> Judge<'_, D> {
         if count == 0 || xs >= places || ys >= places {
             return Some(Verdict::Same);
         }
-        let x = left.memory.places[xs].held;
-        let y = left.memory.places[ys].held;
+        let x = left.memory.argument(xs);
+        let y = left.memory.argument(ys);
         let xs = xs + 1;
         let ys = ys + 1;
         let mut own = Explanation::nothing();

@@ -11,6 +11,7 @@ use crate::judge::Judge;
 use crate::left::Left;
 use crate::verdicts::Judgement;
 use held::explanation::Explanation;
+use held::links::Link;
 use held::memory::Memory;
 use held::places::{Held, Place};
 
@@ -44,7 +45,7 @@ impl<D: Decides> Judge<'_, D> {
     {
         let mut left = Left::new(Memory::new(places), steps);
         let place = self.problem.goal(goal);
-        match self.head(&mut left, because, Held::Term { place, env: None }) {
+        match self.head(&mut left, because, Held::Term { place, env: Link::NONE }) {
             Some(Head::Is { constructor, .. }) => {
                 if constructor == 0 {
                     Judgement::False

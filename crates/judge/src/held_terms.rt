@@ -18,6 +18,7 @@ use crate::decides::Decides;
 use crate::judge::Judge;
 use crate::left::Left;
 use held::explanation::Explanation;
+use held::links::Link;
 use held::memory::Memory;
 use held::places::Held;
 
@@ -34,7 +35,7 @@ impl<D: Decides> Judge<'_, D> {
     }
 
     // The branch for a constructor, of a case on the type `ty` whose subject is at a place.
-    pub fn hold_branch(&self, ty: u8, subject: usize, constructor: u8, env: Option<usize>) -> Held
+    pub fn hold_branch(&self, ty: u8, subject: usize, constructor: u8, env: Link) -> Held
         ensures { (m : List Spot) (top : ℕ) (u : Term) (us : Terms) (ρ : Helds ℕ) → count_of (sig_of (text_of self.now.problem.now).problem) ty ≡ tlength us → ReadsAll (text_of self.now.problem.now) subject (u t∷ us) → Env (Reads (text_of self.now.problem.now)) m top env ρ → Stands (Reads (text_of self.now.problem.now)) m top result (held (branch us constructor) ρ) }
     {
         if constructor < self.problem.constructors(ty) {
@@ -51,9 +52,9 @@ impl<D: Decides> Judge<'_, D> {
         memory: &mut Memory,
         place: usize,
         count: u8,
-        env: Option<usize>,
-        onto: Option<usize>,
-    ) -> Option<usize>
+        env: Link,
+        onto: Link,
+    ) -> Link
         requires { memory.old.top + count ≤ length memory.old.places.now }
         ensures grown { Grown count memory.old memory.new }
         ensures row { (ts : Terms) (ρ : Helds ℕ) → count ≡ tlength ts → ReadsAll (text_of self.now.problem.now) place ts → Env (Reads (text_of self.now.problem.now)) memory.old.places.now memory.old.top env ρ → Row (Reads (text_of self.now.problem.now)) memory.new.places.now memory.new.top memory.old.top (holds ts ρ) }

@@ -3,6 +3,7 @@
 #![tactic(auto)]
 
 use held::explanation::Explanation;
+use held::links::Link;
 use held::memory::Memory;
 use held::places::{Held, Place};
 use judge::answers::Head;
@@ -24,7 +25,7 @@ fn once<D: Decides>(judge: &Judge<'_, D>, places: &mut [Place]) -> (&'static str
     let mut left = Left::new(Memory::new(places), STEPS);
     let mut because = Explanation::nothing();
     let place = judge.problem.goal(0);
-    let judged = match judge.head(&mut left, &mut because, Held::Term { place, env: None }) {
+    let judged = match judge.head(&mut left, &mut because, Held::Term { place, env: Link::NONE }) {
         Some(Head::Is { constructor, .. }) => { if constructor == 0 { "false" } else { "true" } }
         Some(Head::Waits(_)) => "waiting",
         None => "out",

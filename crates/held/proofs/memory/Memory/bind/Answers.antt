@@ -1,5 +1,8 @@
-use Rattle.std.proofs.Common.{◌+◌, ◌-◌, refl, arith}
+use Rattle.std.proofs.Common.{◌+◌, ◌-◌, refl, ap, arith}
+use Rattle.std.proofs.lemmas.List.{get_or_default}
+use Rattle.held.specs.declared.places.Place.{Place}
 use Rattle.held.specs.Reading.{Reads}
+use Rattle.held.specs.Standing.{no_place}
 use Rattle.held.proofs.Standing.{same_trans, bound_none, bound_more, bound_all}
 use Rattle.held.proofs.memory.Memory.bind.Goals as goal
 
@@ -22,6 +25,7 @@ loop-argument-preserved c =
     let top = c.loop-argument.self.top in
     let at = c.loop-argument.argument in
     let end = c.args.start + c.args.count in
+    let is = ap (λ (q : Place). q.held) (get_or_default m at c.index-self-argument.result no_place (omega (arith, inv.long, c.min-end.ensures))) in
     record {
       long = omega (arith, inv.long, p.grown.long);
       top = omega (arith, inv.top, p.top);
@@ -29,7 +33,7 @@ loop-argument-preserved c =
       same = same_trans c.args.self.now.places.now m n c.args.self.now.top top (omega (arith, inv.top)) inv.same p.grown.same;
       bound = λ x xs ρ long row b.
           bound_more (Reads x) m n top c.push-bound.new.self.top at (end - at) (end - (at + 1)) c.loop-argument.bound c.push-bound.result _ ρ xs p.grown.top
-          (omega (arith, c.min-end.ensures, c.saturating_add.ensures, c.from.ensures)) refl p.grown.same (p.bound x) (inv.bound x xs ρ long row b);
+          (omega (arith, c.min-end.ensures, c.saturating_add.ensures, c.from.ensures)) is p.grown.same (p.bound x) (inv.bound x xs ρ long row b);
     }
 
 pub returns-clause-grown : goal.returns-clause-grown

@@ -10,5 +10,5 @@ returns-clause-bound c x ρ h b s =
     let top = c.args.self.now.top in
     let low = env_size (Reads x) m top c.args.env ρ b in
     let size = ap (λ (p : Place). p.size) c.linked.ensures in
-    rw (c.put.ensures.places, c.put.ensures.top)
+    rw (c.put.ensures.places, c.put.ensures.top, c.to.ensures)
     (env_push (Reads x) m top c.args.env (c.min-size.result + 1) c.args.held ρ h c.requires (omega (arith, c.min-size.ensures)) b s)

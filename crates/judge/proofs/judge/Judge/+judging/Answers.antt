@@ -8,7 +8,7 @@ use Rattle.judge.specs.Texts.{text_of, tlength}
 use Rattle.judge.proofs.Texts.{reads, shown}
 use Rattle.problem.specs.declared.view.View.TheVariants as view
 use Rattle.judge.proofs.Sets.{adds_none, adds_append, adds_only, explains}
-use Rattle.judge.proofs.Agreeing.{opens, shut, opens_comparing, shut_comparing, stands_missing, stands_unknown, stands_term, by, by_verdict, lost, lost_verdict, lost_right, still_waits, as_head, as_verdict, agrees_join, concurs_join, holds_length, and_left_false, and_left_true, pairs_none, pairs_more}
+use Rattle.judge.proofs.Agreeing.{opens, shut, opens_comparing, shut_comparing, stands_missing, stands_unknown, stands_term, stands_is, by, by_verdict, lost, lost_verdict, lost_right, still_waits, as_head, as_verdict, agrees_join, concurs_join, holds_length, and_left_false, and_left_true, pairs_none, pairs_more}
 use Rattle.judge.proofs.Keeping.{stands_kept, env_kept, row_kept}
 use Rattle.judge.proofs.judge.Judge.+judging.Goals as goal
 
@@ -32,7 +32,7 @@ arguments-returns-in_err-compare-clause-pairs g t c d xs ys le long rx ry =
     pairs_more (Reads x) A l.memory.places.now l.memory.top c.args.xs c.args.ys c.args.count l.steps xs ys _ _ _ _ (omega arith) long rx ry
     (λ h k hs ks sh sk less rhs rks.
     let rest = after_pair (pairs A hs ks) in
-    lost_verdict c.from_residual.ensures (ap (go_on rest) (c.in_err-compare.ensures.compares d h k le sh sk).means))
+    lost_verdict c.from_residual.ensures (ap (go_on rest) (c.in_err-compare.ensures.compares d h k le (stands_is (Reads x) l.memory.places.now l.memory.top h c.argument-x.result _ c.argument-x.ensures sh) (stands_is (Reads x) l.memory.places.now l.memory.top k c.argument-y.result _ c.argument-y.ensures sk)).means))
 
 pub arguments-returns-in_err-rest-in-Same-clause-pairs : goal.arguments-returns-in_err-rest-in-Same-clause-pairs
 arguments-returns-in_err-rest-in-Same-clause-pairs g t c d xs ys le long rx ry =
@@ -43,7 +43,7 @@ arguments-returns-in_err-rest-in-Same-clause-pairs g t c d xs ys le long rx ry =
     pairs_more (Reads x) A l.memory.places.now l.memory.top c.args.xs c.args.ys c.args.count l.steps xs ys _ _ _ _ (omega arith) long rx ry
     (λ h k hs ks sh sk less rhs rks.
     let rest = after_pair (pairs A hs ks) in
-    let v = as_verdict c.in-Same.is (c.in_ok-compare.ensures.compares d h k le sh sk) in
+    let v = as_verdict c.in-Same.is (c.in_ok-compare.ensures.compares d h k le (stands_is (Reads x) l.memory.places.now l.memory.top h c.argument-x.result _ c.argument-x.ensures sh) (stands_is (Reads x) l.memory.places.now l.memory.top k c.argument-y.result _ c.argument-y.ensures sk)) in
     let later = c.in_err-rest-in-Same.ensures.pairs d hs ks (omega arith) less (row_kept (Reads x) c.compare.ensures.kept (c.args.xs + 1) hs rhs) (row_kept (Reads x) c.compare.ensures.kept (c.args.ys + 1) ks rks) in
     lost_verdict c.from_residual-in_err-rest-in-Same.ensures (ap (go_on rest) v.1 ∙ ap (go_on (λ w. give (after_same v.0 w))) later.means))
 
@@ -56,7 +56,7 @@ arguments-returns-in_err-rest-in-Wait-clause-pairs g t c d xs ys le long rx ry =
     pairs_more (Reads x) A l.memory.places.now l.memory.top c.args.xs c.args.ys c.args.count l.steps xs ys _ _ _ _ (omega arith) long rx ry
     (λ h k hs ks sh sk less rhs rks.
     let rest = after_pair (pairs A hs ks) in
-    let v = as_verdict c.in-Wait.is (c.in_ok-compare.ensures.compares d h k le sh sk) in
+    let v = as_verdict c.in-Wait.is (c.in_ok-compare.ensures.compares d h k le (stands_is (Reads x) l.memory.places.now l.memory.top h c.argument-x.result _ c.argument-x.ensures sh) (stands_is (Reads x) l.memory.places.now l.memory.top k c.argument-y.result _ c.argument-y.ensures sk)) in
     let later = c.in_err-rest-in-Wait.ensures.pairs d hs ks (omega arith) less (row_kept (Reads x) c.compare.ensures.kept (c.args.xs + 1) hs rhs) (row_kept (Reads x) c.compare.ensures.kept (c.args.ys + 1) ks rks) in
     lost_verdict c.from_residual-in_err-rest-in-Wait.ensures (ap (go_on rest) v ∙ ap (go_on (λ w. give (after_wait c.in-Wait.unknown w))) later.means))
 
@@ -69,7 +69,7 @@ arguments-returns-in_ok-rest-in-Same-clause-pairs g t c d xs ys le long rx ry =
     pairs_more (Reads x) A l.memory.places.now l.memory.top c.args.xs c.args.ys c.args.count l.steps xs ys _ _ _ _ (omega arith) long rx ry
     (λ h k hs ks sh sk less rhs rks.
     let rest = after_pair (pairs A hs ks) in
-    let v = as_verdict c.in-Same.is (c.in_ok-compare.ensures.compares d h k le sh sk) in
+    let v = as_verdict c.in-Same.is (c.in_ok-compare.ensures.compares d h k le (stands_is (Reads x) l.memory.places.now l.memory.top h c.argument-x.result _ c.argument-x.ensures sh) (stands_is (Reads x) l.memory.places.now l.memory.top k c.argument-y.result _ c.argument-y.ensures sk)) in
     by_verdict (ap (go_on rest) (sym v.1))
     (c.past_same.ensures c.arguments.new.left c.args.because.now.words v.0 _ (explains c.nothing-own.result.words c.compare.new.because.words c.nothing-own.ensures v.2)
     (c.in_ok-rest-in-Same.ensures.pairs d hs ks (omega arith) less (row_kept (Reads x) c.compare.ensures.kept (c.args.xs + 1) hs rhs) (row_kept (Reads x) c.compare.ensures.kept (c.args.ys + 1) ks rks))))
@@ -83,7 +83,7 @@ arguments-returns-in-Differ-clause-pairs g t c d xs ys le long rx ry =
     pairs_more (Reads x) A l.memory.places.now l.memory.top c.args.xs c.args.ys c.args.count l.steps xs ys _ _ _ _ (omega arith) long rx ry
     (λ h k hs ks sh sk less rhs rks.
     let rest = after_pair (pairs A hs ks) in
-    let v = as_verdict c.in-Differ.is (c.in_ok-compare.ensures.compares d h k le sh sk) in
+    let v = as_verdict c.in-Differ.is (c.in_ok-compare.ensures.compares d h k le (stands_is (Reads x) l.memory.places.now l.memory.top h c.argument-x.result _ c.argument-x.ensures sh) (stands_is (Reads x) l.memory.places.now l.memory.top k c.argument-y.result _ c.argument-y.ensures sk)) in
     record {
       means = (v.0, ap (go_on rest) v.1, adds_only _ c.compare.new.because.words (explains c.nothing-own.result.words c.compare.new.because.words c.nothing-own.ensures v.2) c.join.ensures);
     })
@@ -97,7 +97,7 @@ arguments-returns-in_ok-rest-in-Wait-clause-pairs g t c d xs ys le long rx ry =
     pairs_more (Reads x) A l.memory.places.now l.memory.top c.args.xs c.args.ys c.args.count l.steps xs ys _ _ _ _ (omega arith) long rx ry
     (λ h k hs ks sh sk less rhs rks.
     let rest = after_pair (pairs A hs ks) in
-    let v = as_verdict c.in-Wait.is (c.in_ok-compare.ensures.compares d h k le sh sk) in
+    let v = as_verdict c.in-Wait.is (c.in_ok-compare.ensures.compares d h k le (stands_is (Reads x) l.memory.places.now l.memory.top h c.argument-x.result _ c.argument-x.ensures sh) (stands_is (Reads x) l.memory.places.now l.memory.top k c.argument-y.result _ c.argument-y.ensures sk)) in
     by_verdict (ap (go_on rest) (sym v))
     (c.past_wait.ensures c.arguments-in-Wait.new.left c.args.because.now.words c.arguments-in-Wait.new.because.words _
     (c.in_ok-rest-in-Wait.ensures.pairs d hs ks (omega arith) less (row_kept (Reads x) c.compare.ensures.kept (c.args.xs + 1) hs rhs) (row_kept (Reads x) c.compare.ensures.kept (c.args.ys + 1) ks rks))))
