@@ -45,7 +45,14 @@ impl<D: Decides> Judge<'_, D> {
     {
         let mut left = Left::new(Memory::new(places), steps);
         let place = self.problem.goal(goal);
-        match self.head(&mut left, because, Held::Term { place, env: Link::NONE }) {
+        match self.head(
+            &mut left,
+            because,
+            Held::Term {
+                place,
+                env: Link::NONE,
+            },
+        ) {
             Some(Head::Is { constructor, .. }) => {
                 if constructor == 0 {
                     Judgement::False

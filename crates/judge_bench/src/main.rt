@@ -25,7 +25,14 @@ fn once<D: Decides>(judge: &Judge<'_, D>, places: &mut [Place]) -> (&'static str
     let mut left = Left::new(Memory::new(places), STEPS);
     let mut because = Explanation::nothing();
     let place = judge.problem.goal(0);
-    let judged = match judge.head(&mut left, &mut because, Held::Term { place, env: Link::NONE }) {
+    let judged = match judge.head(
+        &mut left,
+        &mut because,
+        Held::Term {
+            place,
+            env: Link::NONE,
+        },
+    ) {
         Some(Head::Is { constructor, .. }) => { if constructor == 0 { "false" } else { "true" } }
         Some(Head::Waits(_)) => "waiting",
         None => "out",

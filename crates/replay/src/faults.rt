@@ -41,9 +41,9 @@ impl fmt::Display for ReplayFault {
     fn fmt<W: fmt::Write>(&self, f: &mut fmt::Formatter<W>) -> fmt::Result {
         let number = self.number();
         match self {
-            ReplayFault::BadModel(fault) => {
-                let reason = fault.reason.number();
-                let place = fault.place;
+            ReplayFault::BadModel(inner) => {
+                let reason = inner.reason.number();
+                let place = inner.place;
                 write!(f, "{number}: {reason} at {place}")
             }
             _ => write!(f, "{number}"),
