@@ -73,28 +73,11 @@ adds_one ws u x long small is = record {
       ];
 }
 
-abbrev both_at : List ℕ → List ℕ → ℕ → ℕ
-both_at a b i = bit_or (get_or a i 0) (get_or b i 0)
-
-abbrev pub joined : List ℕ → List ℕ → List ℕ
-joined a b =
-    both_at a b 0
-    ∷ (both_at a b 1 ∷ (both_at a b 2 ∷ (both_at a b 3 ∷ (both_at a b 4 ∷ (both_at a b 5 ∷ (both_at a b 6 ∷ (both_at a b 7 ∷ [])))))))
-
-at_joined : (a b : List ℕ) (i : ℕ) → i < 8 → get_or (joined a b) i 0 ≡ both_at a b i
-at_joined a b zero h = refl
-at_joined a b (suc zero) h = refl
-at_joined a b (suc (suc zero)) h = refl
-at_joined a b (suc (suc (suc zero))) h = refl
-at_joined a b (suc (suc (suc (suc zero)))) h = refl
-at_joined a b (suc (suc (suc (suc (suc zero))))) h = refl
-at_joined a b (suc (suc (suc (suc (suc (suc zero)))))) h = refl
-at_joined a b (suc (suc (suc (suc (suc (suc (suc zero))))))) h = refl
-at_joined a b (suc (suc (suc (suc (suc (suc (suc (suc i)))))))) h = absurd (omega arith)
-
-pub contains_joined : (a b : List ℕ) → length a ≡ 8 → length b ≡ 8 → (u : ℕ) → contains (joined a b) u ≡ (contains a u || contains b u)
-contains_joined a b p q u =
+-- each word of c is the `or` of those of a and b
+pub contains_joined : (c a b : List ℕ) → length c ≡ 8 → length a ≡ 8 → length b ≡ 8
+    → ((i : ℕ) → i < 8 → get_or c i 0 ≡ bit_or (get_or a i 0) (get_or b i 0)) → (u : ℕ) → contains c u ≡ (contains a u || contains b u)
+contains_joined c a b p q r at u =
     elim (cases_lt (u / 64) 8) [
-      | inl lt ↦ ap (λ n. bit n (u % 64)) (at_joined a b (u / 64) lt) ∙ bit_or_lem (get_or a (u / 64) 0) (get_or b (u / 64) 0) (u % 64)
-      | inr ge ↦ past (joined a b) u refl ge ∙ sym (ap (λ x. x || contains b u) (past a u p ge) ∙ past b u q ge)
+      | inl lt ↦ ap (λ n. bit n (u % 64)) (at (u / 64) lt) ∙ bit_or_lem (get_or a (u / 64) 0) (get_or b (u / 64) 0) (u % 64)
+      | inr ge ↦ past c u p ge ∙ sym (ap (λ x. x || contains b u) (past a u q ge) ∙ past b u r ge)
     ]

@@ -1,3 +1,5 @@
 pub mod Explanations
+pub mod Links
 pub mod Reading
 pub mod Standing
+pub mod Growing

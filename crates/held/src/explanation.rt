@@ -21,11 +21,12 @@ impl Explanation {
     pub fn has(&self, unknown: u16) -> bool
         ensures { result ≡ contains self.now.words unknown }
     {
-        let word = unknown / 64;
-        if word >= 8 {
-            return false;
+        let word = (unknown / 64) as usize;
+        if word < self.words.len() {
+            (self.words[word] >> (unknown % 64)) % 2 == 1
+        } else {
+            false
         }
-        (self.words[word as usize] >> (unknown % 64)) % 2 == 1
     }
 
     // Puts the unknown into the set, which has no room for numbers from 512 on: those change nothing.
@@ -33,8 +34,8 @@ impl Explanation {
         ensures { Adds self.old.words self.new.words (unknown ∷ []) }
     {
         let word = (unknown / 64) as usize;
-        if word < 8 {
-            self.words[word] = self.words[word] | (1u64 << (unknown % 64));
+        if word < self.words.len() {
+            self.words[word] |= 1 << (unknown % 64);
         }
     }
 
@@ -42,17 +43,10 @@ impl Explanation {
     pub fn join(&mut self, other: &Explanation)
         ensures { (u : ℕ) → contains self.new.words u ≡ (contains self.old.words u || contains other.now.words u) }
     {
-        let a = self.words;
-        let b = other.words;
-        self.words = [
-            a[0] | b[0],
-            a[1] | b[1],
-            a[2] | b[2],
-            a[3] | b[3],
-            a[4] | b[4],
-            a[5] | b[5],
-            a[6] | b[6],
-            a[7] | b[7],
-        ];
+        let mut words = self.words;
+        for (index, word) in other.words.iter().enumerate() {
+            words[index] |= *word;
+        }
+        self.words = words;
     }
 }

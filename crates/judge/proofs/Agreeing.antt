@@ -1,23 +1,23 @@
 -- One step of the definition at a time, and what the code's answer to it gives to the next.
-use Rattle.std.proofs.Common.{◌≡◌, ℕ, zero, suc, ◌+◌, ◌-◌, ◌<◌, ◌≤◌, min, List, [], ◌++◌, length, get_or, sym, refl, ap, subst, sub-one, arith}
-use mathlib.Core.Option.{Option, none, some}
+use Rattle.std.proofs.Common.{◌≡◌, ℕ, zero, suc, ◌+◌, ◌-◌, ◌<◌, ◌≤◌, min, List, [], ◌++◌, length, get_or, Some, None, Option, sym, refl, ap, ◌∙◌, subst, sub-one, arith}
+use mathlib.Core.Option.{Option as Maybe, none, some}
 use Rattle.syntax.specs.Terms.{Term, Terms, t[], ◌t∷◌}
 use Rattle.syntax.specs.Problems.{Problem}
 use Rattle.judging.specs.Held.{Held, hold, free, Helds, h[], ◌h∷◌, missing, holds}
-use Rattle.judging.specs.Judging.{Unknowns, Head, is, Verdict, same, Asks, Judging, go_on, give, join, join_verdict, and_right, and_true, after_pair, pairs, headed, compared, judges}
+use Rattle.judging.specs.Judging.{Unknowns, Head, is, Verdict, same, wait, Asks, Judging, go_on, give, join, join_verdict, and_right, and_true, after_left, after_right, after_pair, pairs, headed, compared, judges}
 use Rattle.held.specs.Explanations.{Adds}
 use Rattle.held.specs.Reading.{Text}
 use Rattle.held.specs.Standing.{no_place, hlength, Stands, Row, Env}
 use Rattle.held.specs.declared.places.Held.{Held as Code}
 use Rattle.held.specs.declared.places.Held.TheVariants.{Missing, Term as At, Unknown}
 use Rattle.held.specs.declared.places.Place.{Place}
-use Rattle.judge.specs.declared.answers.Left.{Left}
+use Rattle.judge.specs.declared.left.Left.{Left}
 use Rattle.judge.specs.declared.answers.Head.{Head as CodeHead}
-use Rattle.judge.specs.declared.answers.Head.TheVariants.{Out, Waits, Is}
+use Rattle.judge.specs.declared.answers.Head.TheVariants.{Waits, Is}
 use Rattle.judge.specs.declared.answers.Verdict.{Verdict as CodeVerdict}
-use Rattle.judge.specs.declared.answers.Verdict.TheVariants.{Out as OutV, Wait, Same as SameV, Differ}
+use Rattle.judge.specs.declared.answers.Verdict.TheVariants.{Wait, Same as SameV, Differ}
 use Rattle.judge.specs.Texts.{tlength}
-use Rattle.judge.specs.Means.{Agrees, Concurs}
+use Rattle.judge.specs.Means.{HeadAs, Agrees, VerdictAs, Concurs}
 use Rattle.judge.specs.declared.verdicts.Judgement.TheVariants.{False, True}
 use Rattle.judge.specs.Outcomes.{outcome}
 use Rattle.judge.proofs.Sets.{adds_append}
@@ -57,34 +57,62 @@ module _ (R : ℕ → Term → Type 0) (m : List Place) (top : ℕ) where
   stands_unknown x u (free v) e s = ap free (sym (subst (λ (y : Code). Stands R m top y (free v)) e s))
   stands_unknown x u (hold t ρ) e s = absurd (subst (λ (y : Code). Stands R m top y (hold t ρ)) e s)
 
-  pub stands_term : (x : Code) (p e : ℕ) (h : Held ℕ) → x ≡ At p e → Stands R m top x h
+  pub stands_term : (x : Code) (p : ℕ) (e : Option ℕ) (h : Held ℕ) → x ≡ At p e → Stands R m top x h
       → (t : Term) × (ρ : Helds ℕ) × (h ≡ hold t ρ) × R p t × Env R m top e ρ
   stands_term x p e (free u) q s = absurd (subst (λ (y : Code). Stands R m top y (free u)) q s)
   stands_term x p e (hold t ρ) q s = let r = subst (λ (y : Code). Stands R m top y (hold t ρ)) q s in (t, ρ, refl, r.0, r.1)
 
-pub by : {x : Text} {m : List Place} {l : Left} {a b : List ℕ} {r : CodeHead} {o q : Option (Head ℕ × ℕ)} → o ≡ q → Agrees x m l a b r o → Agrees x m l a b r q
-by {x} {m} {l} {a} {b} {r} e h = subst (λ (o : Option (Head ℕ × ℕ)). Agrees x m l a b r o) e h
+pub stands_is : (R : ℕ → Term → Type 0) (m : List Place) (top : ℕ) (h : Held ℕ) (x y : Code) → x ≡ y → Stands R m top y h → Stands R m top x h
+stands_is R m top h x y e s = subst (λ (z : Code). Stands R m top z h) (sym e) s
 
-pub by_verdict : {l : Left} {a b : List ℕ} {r : CodeVerdict} {o q : Option (Verdict ℕ × ℕ)} → o ≡ q → Concurs l a b r o → Concurs l a b r q
-by_verdict {l} {a} {b} {r} e h = subst (λ (o : Option (Verdict ℕ × ℕ)). Concurs l a b r o) e h
+pub by : {x : Text} {l : Left} {a b : List ℕ} {r : Option CodeHead} {o q : Maybe (Head ℕ × ℕ)} → o ≡ q → Agrees x l a b r o → Agrees x l a b r q
+by {x} {l} {a} {b} {r} e h = subst (λ (o : Maybe (Head ℕ × ℕ)). Agrees x l a b r o) e h
+
+pub by_verdict : {l : Left} {a b : List ℕ} {r : Option CodeVerdict} {o q : Maybe (Verdict ℕ × ℕ)} → o ≡ q → Concurs l a b r o → Concurs l a b r q
+by_verdict {l} {a} {b} {r} e h = subst (λ (o : Maybe (Verdict ℕ × ℕ)). Concurs l a b r o) e h
+
+-- none, for want of steps
+pub lost : {x : Text} {l : Left} {a b : List ℕ} {r : Option CodeHead} {o : Maybe (Head ℕ × ℕ)} → r ≡ None → o ≡ none → Agrees x l a b r o
+lost {x} {l} {a} {b} {r} {o} e q = subst (λ (s : Option CodeHead). Agrees x l a b s o) (sym e) (record { means = q })
+
+pub lost_verdict : {l : Left} {a b : List ℕ} {r : Option CodeVerdict} {o : Maybe (Verdict ℕ × ℕ)} → r ≡ None → o ≡ none → Concurs l a b r o
+lost_verdict {l} {a} {b} {r} {o} e q = subst (λ (s : Option CodeVerdict). Concurs l a b s o) (sym e) (record { means = q })
+
+-- an answer of which the case is known
+pub as_head : {x : Text} {l : Left} {a b : List ℕ} {r q : CodeHead} {o : Maybe (Head ℕ × ℕ)} → r ≡ q → Agrees x l a b (Some r) o → HeadAs x l a b (Some q) o
+as_head {x} {l} {a} {b} {r} {q} {o} e h = subst (λ (s : CodeHead). HeadAs x l a b (Some s) o) e h.means
+
+pub as_verdict : {l : Left} {a b : List ℕ} {r q : CodeVerdict} {o : Maybe (Verdict ℕ × ℕ)} → r ≡ q → Concurs l a b (Some r) o → VerdictAs l a b (Some q) o
+as_verdict {l} {a} {b} {r} {q} {o} e h = subst (λ (s : CodeVerdict). VerdictAs l a b (Some s) o) e h.means
+
+-- the right side of a comparing whose left side is at hand: it is lost, or the left side waits
+pub lost_right : {x : Text} {l : Left} {a b : List ℕ} {o : Maybe (Head ℕ × ℕ)} (A : Asks ℕ) (k : Held ℕ) (r : CodeHead) → Agrees x l a b (Some r) o
+    → A.head k l.steps ≡ none → go_on (after_left A k) o ≡ none
+lost_right A k (Waits u) h q = ap (go_on (after_left A k)) h.means ∙ ap (go_on (λ c. give (wait u))) q
+lost_right A k (Is i c n) h q = ap (go_on (after_left A k)) h.means.2 ∙ ap (go_on (after_right A c h.means.0 h.means.1)) q
+
+pub still_waits : {x : Text} {l : Left} {a b : List ℕ} {o : Maybe (Head ℕ × ℕ)} (u : ℕ) (r : CodeHead) → Agrees x l a b (Some r) o
+    → go_on (λ c. give (wait u)) o ≡ some (wait u, l.steps)
+still_waits u (Waits v) h = ap (go_on (λ c. give (wait u))) h.means
+still_waits u (Is i c n) h = ap (go_on (λ c. give (wait u))) h.means.2
 
 -- an explanation before that of the answer
-pub agrees_join : {x : Text} {m : List Place} {l : Left} {a b c E : List ℕ} (r : CodeHead) {o : Option (Head ℕ × ℕ)} → Adds a b E
-    → Agrees x m l b c r o → Agrees x m l a c r (go_on (λ h. give (join E h)) o)
-agrees_join {x} {m} {l} {a} {b} {c} {E} Out s h = record { means = ap (go_on (λ h. give (join E h))) h.means }
-agrees_join {x} {m} {l} {a} {b} {c} {E} (Waits u) s h = record { means = ap (go_on (λ h. give (join E h))) h.means }
-agrees_join {x} {m} {l} {a} {b} {c} {E} (Is k i n) s h = record {
+pub agrees_join : {x : Text} {l : Left} {a b c E : List ℕ} (r : Option CodeHead) {o : Maybe (Head ℕ × ℕ)} → Adds a b E
+    → Agrees x l b c r o → Agrees x l a c r (go_on (λ h. give (join E h)) o)
+agrees_join {x} {l} {a} {b} {c} {E} None s h = record { means = ap (go_on (λ h. give (join E h))) h.means }
+agrees_join {x} {l} {a} {b} {c} {E} (Some (Waits u)) s h = record { means = ap (go_on (λ h. give (join E h))) h.means }
+agrees_join {x} {l} {a} {b} {c} {E} (Some (Is i k n)) s h = record {
   means = (h.means.0, E ++ h.means.1, ap (go_on (λ h. give (join E h))) h.means.2, h.means.3, h.means.4, adds_append s h.means.5);
 }
 
-pub concurs_join : {l : Left} {a b c E : List ℕ} (r : CodeVerdict) {o : Option (Verdict ℕ × ℕ)} → Adds a b E
+pub concurs_join : {l : Left} {a b c E : List ℕ} (r : Option CodeVerdict) {o : Maybe (Verdict ℕ × ℕ)} → Adds a b E
     → Concurs l b c r o → Concurs l a c r (go_on (λ v. give (join_verdict E v)) o)
-concurs_join {l} {a} {b} {c} {E} OutV s h = record { means = ap (go_on (λ v. give (join_verdict E v))) h.means }
-concurs_join {l} {a} {b} {c} {E} (Wait u) s h = record { means = ap (go_on (λ v. give (join_verdict E v))) h.means }
-concurs_join {l} {a} {b} {c} {E} SameV s h = record {
+concurs_join {l} {a} {b} {c} {E} None s h = record { means = ap (go_on (λ v. give (join_verdict E v))) h.means }
+concurs_join {l} {a} {b} {c} {E} (Some (Wait u)) s h = record { means = ap (go_on (λ v. give (join_verdict E v))) h.means }
+concurs_join {l} {a} {b} {c} {E} (Some SameV) s h = record {
   means = (E ++ h.means.0, ap (go_on (λ v. give (join_verdict E v))) h.means.1, adds_append s h.means.2);
 }
-concurs_join {l} {a} {b} {c} {E} Differ s h = record {
+concurs_join {l} {a} {b} {c} {E} (Some Differ) s h = record {
   means = (E ++ h.means.0, ap (go_on (λ v. give (join_verdict E v))) h.means.1, adds_append s h.means.2);
 }
 
@@ -113,7 +141,7 @@ module _ (R : ℕ → Term → Type 0) (A : Asks ℕ) (m : List Place) (top : �
   pairs_none i j count s (x h∷ xs) h[] stop le long rx ry = refl
   pairs_none i j count s (x h∷ xs) (y h∷ ys) stop le long rx ry = absurd (stop (omega arith) (omega arith) (omega arith))
 
-  pub pairs_more : (i j count s : ℕ) (xs ys : Helds ℕ) (l : Left) (a b : List ℕ) (r : CodeVerdict) → 0 < count
+  pub pairs_more : (i j count s : ℕ) (xs ys : Helds ℕ) (l : Left) (a b : List ℕ) (r : Option CodeVerdict) → 0 < count
       → count ≡ min (hlength xs) (hlength ys) → Row R m top i xs → Row R m top j ys
       → ((h k : Held ℕ) (hs ks : Helds ℕ) → Stands R m top (get_or m i no_place).held h → Stands R m top (get_or m j no_place).held k
       → count - 1 ≡ min (hlength hs) (hlength ks) → Row R m top (i + 1) hs → Row R m top (j + 1) ks

@@ -1,5 +1,5 @@
 -- Terms in the bytes of a problem: from what its queries promise to what a view shows.
-use Rattle.std.proofs.Common.{◌≡◌, ℕ, zero, suc, ◌-◌, ◌<◌, ◌≤◌, List, [], ◌∷◌, ◌++◌, length, sym, refl, ap, ◌∙◌, subst, sub-one, arith}
+use Rattle.std.proofs.Common.{◌≡◌, ℕ, zero, suc, ◌<◌, ◌≤◌, List, [], ◌∷◌, ◌++◌, length, sym, refl, ap, ◌∙◌, subst, arith}
 use lib.ListN.{length-map}
 use Rattle.syntax.specs.Terms.{Term, Terms, t[], ◌t∷◌}
 use Rattle.syntax.specs.Typing.{Sig, Want, want, each_of, branches_of, arguments, params_of, cases_of}
@@ -73,18 +73,30 @@ by_view p place t w Nothing s = s
 pub shown : (p : Problem) (place : ℕ) (v : View) → AlwaysShows (sig p) (held p) (ends p) place v → (t : Term) → Reads (text_of p) place t → Shows (text_of p) v t
 shown p place v h t r = by_view p place t (want r.scope r.ty) v (h (want r.scope r.ty) t (stands r))
 
-pub skip_none : (x : Text) (place count : ℕ) (ts : Terms) → count ≡ 0 → count < tlength ts → ReadsAll x place ts → Reads x place (branch ts count)
-skip_none x place count t[] z lt r = absurd (omega arith)
-skip_none x place zero (t t∷ ts) z lt r = first_of r
-skip_none x place (suc count) (t t∷ ts) z lt r = absurd (omega arith)
+-- the terms that are left from the place `at` on, of which the one after `left` others is looked for
+pub record Skipping (x : Text) (at left count : ℕ) (ts : Terms) : Type 0 where
+  pub rest : Terms
+  pub reads : ReadsAll x at rest
+  pub more : left < tlength rest
+  pub same : branch rest left ≡ branch ts count
 
-pub skip_more : (x : Text) (place count p q : ℕ) (ts : Terms) → 0 < count → count < tlength ts → ReadsAll x place ts
-    → ((t : Term) (us : Terms) → ReadsAll x place (t t∷ us) → ReadsAll x p us)
-    → ((us : Terms) → count - 1 < tlength us → ReadsAll x p us → Reads x q (branch us (count - 1)))
-    → Reads x q (branch ts count)
-skip_more x place count p q t[] pos lt r after go = absurd (omega arith)
-skip_more x place zero p q (t t∷ ts) pos lt r after go = absurd (omega arith)
-skip_more x place (suc count) p q (t t∷ ts) pos lt r after go = rw sub-one at (go ts (omega arith) (after t ts r))
+pub skipping_none : (x : Text) (place count left : ℕ) (ts : Terms) → left ≡ count → count < tlength ts → ReadsAll x place ts → Skipping x place left count ts
+skipping_none x place count left ts is lt r = record { rest = ts; reads = r; more = omega arith; same = ap (branch ts) is }
+
+pub skipping_more : (x : Text) (at next left after count : ℕ) (ts : Terms) → left ≡ suc after
+    → ((t : Term) (us : Terms) → ReadsAll x at (t t∷ us) → ReadsAll x next us) → Skipping x at left count ts → Skipping x next after count ts
+skipping_more x at next left after count ts is go s = past s.rest s.reads s.more s.same
+  where
+    past : (us : Terms) → ReadsAll x at us → left < tlength us → branch us left ≡ branch ts count → Skipping x next after count ts
+    past t[] r more same = absurd (omega arith)
+    past (t t∷ us) r more same = record { rest = us; reads = go t us r; more = omega arith; same = ap (branch (t t∷ us)) (sym is) ∙ same }
+
+pub skipping_all : (x : Text) (at left count : ℕ) (ts : Terms) → left ≡ 0 → Skipping x at left count ts → Reads x at (branch ts count)
+skipping_all x at left count ts z s = subst (λ (t : Term). Reads x at t) s.same (first_at s.rest s.reads s.more)
+  where
+    first_at : (us : Terms) → ReadsAll x at us → left < tlength us → Reads x at (branch us left)
+    first_at t[] r more = absurd (omega arith)
+    first_at (t t∷ us) r more = subst (λ (k : ℕ). Reads x at (branch (t t∷ us) k)) (sym z) (first_of r)
 
 pub no_branch : (ts : Terms) (c : ℕ) → tlength ts ≤ c → branch ts c ≡ missing
 no_branch t[] c h = refl

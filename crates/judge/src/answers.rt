@@ -1,30 +1,36 @@
-// What the judge answers, and what it has left to work with.
+// What the judge answers.
 
-// The head of a held term: none for want of steps; the unknown that it waits on; or a constructor, whose arguments stand in
-// the places from `start` on.
+// The head of a held term: the unknown that it waits on; or a constructor, whose arguments stand in the places from
+// `start` on. The judge answers none for want of steps.
 #[derive(Clone, Copy)]
 pub enum Head {
-    Out,
     Waits(u16),
     Is {
-        constructor: u8,
         start: usize,
+        constructor: u8,
         count: u8,
     },
 }
 
-// What comparing two held terms comes to.
+// The two values of Bool, which have no arguments.
+impl Head {
+    pub const FALSE: Head = Head::Is {
+        start: 0,
+        constructor: 0,
+        count: 0,
+    };
+
+    pub const TRUE: Head = Head::Is {
+        start: 0,
+        constructor: 1,
+        count: 0,
+    };
+}
+
+// What comparing two held terms comes to; likewise none for want of steps.
 #[derive(Clone, Copy)]
 pub enum Verdict {
-    Out,
     Wait(u16),
     Same,
     Differ,
-}
-
-// The steps left, and how many places are in use.
-#[derive(Clone, Copy)]
-pub struct Left {
-    pub steps: usize,
-    pub top: usize,
 }

@@ -3,12 +3,13 @@ ghost use Rattle.std.specs.Prelude.{◌≡◌, ℕ};
 ghost use Rattle.judging.specs.Judging.{Unknowns};
 ghost use Rattle.judge.specs.Decisions.{Chooses};
 
-// The constructor that is chosen for an unknown, and its children, which are the first `count` numbers.
-#[derive(Clone, Copy)]
+use arrayvec::ArrayVec;
+
+// The constructor that is chosen for an unknown, and the numbers of its children.
+#[derive(Drop)]
 pub struct Choice {
     pub constructor: u8,
-    pub count: u8,
-    pub children: [u16; 6],
+    pub children: ArrayVec<u16, 6>,
 }
 
 // A table of unknowns, each with a number. The judge knows it only by the unknowns that it stands for.

@@ -5,13 +5,15 @@ ghost use Rattle.judging.specs.Judging.{judge};
 ghost use Rattle.judge.specs.Texts.{text_of};
 ghost use Rattle.judge.specs.Outcomes.{outcome, byte_of, Explained};
 
-use crate::answers::{Head, Left};
-use crate::cycle::head;
+use crate::answers::Head;
 use crate::decides::Decides;
+use crate::judge::Judge;
+use crate::left::Left;
 use crate::verdicts::Judgement;
 use held::explanation::Explanation;
+use held::links::Link;
+use held::memory::Memory;
 use held::places::{Held, Place};
-use problem::problem::Problem;
 
 impl Judgement {
     // The byte that stands for a judgement in an answer.
@@ -27,38 +29,39 @@ impl Judgement {
     }
 }
 
-// Judges a goal with so many steps. The explanation of a true or a false one is put into `because`.
-pub fn judge_goal<D: Decides>(
-    problem: &Problem,
-    decider: &D,
-    memory: &mut [Place],
-    because: &mut Explanation,
-    steps: usize,
-    goal: usize,
-) -> Judgement
-    requires room { 6 * steps ≤ length memory.old }
-    requires known { goal < length (text_of problem.now).problem.goals }
-    ensures judged { result ≡ outcome (judge (text_of problem.now).problem (D.unknowns decider.now) (goal_of (text_of problem.now).problem goal) steps) }
-    ensures explained { Explained because.old.words because.new.words (judge (text_of problem.now).problem (D.unknowns decider.now) (goal_of (text_of problem.now).problem goal) steps) }
-{
-    let mut left = Left { steps, top: 0 };
-    let place = problem.goal(goal);
-    match head(
-        problem,
-        decider,
-        memory,
-        &mut left,
-        because,
-        Held::Term { place, env: 0 },
-    ) {
-        Head::Is { constructor, .. } => {
-            if constructor == 0 {
-                Judgement::False
-            } else {
-                Judgement::True
+impl<D: Decides> Judge<'_, D> {
+    // Judges a goal with so many steps. The explanation of a true or a false one is put into `because`.
+    pub fn judge_goal(
+        &self,
+        places: &mut [Place],
+        because: &mut Explanation,
+        steps: usize,
+        goal: usize,
+    ) -> Judgement
+        requires room { 6 * steps ≤ length places.old }
+        requires known { goal < length (text_of self.now.problem.now).problem.goals }
+        ensures judged { result ≡ outcome (judge (text_of self.now.problem.now).problem (D.unknowns self.now.decider.now) (goal_of (text_of self.now.problem.now).problem goal) steps) }
+        ensures explained { Explained because.old.words because.new.words (judge (text_of self.now.problem.now).problem (D.unknowns self.now.decider.now) (goal_of (text_of self.now.problem.now).problem goal) steps) }
+    {
+        let mut left = Left::new(Memory::new(places), steps);
+        let place = self.problem.goal(goal);
+        match self.head(
+            &mut left,
+            because,
+            Held::Term {
+                place,
+                env: Link::NONE,
+            },
+        ) {
+            Some(Head::Is { constructor, .. }) => {
+                if constructor == 0 {
+                    Judgement::False
+                } else {
+                    Judgement::True
+                }
             }
+            Some(Head::Waits(unknown)) => Judgement::Waiting(unknown),
+            None => Judgement::Out,
         }
-        Head::Waits(unknown) => Judgement::Waiting(unknown),
-        Head::Out => Judgement::Out,
     }
 }

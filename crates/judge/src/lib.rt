@@ -6,5 +6,7 @@ pub mod cycle;
 pub mod decides;
 pub mod goals;
 pub mod held_terms;
+pub mod judge;
+pub mod left;
 pub mod outcomes;
 pub mod verdicts;

@@ -3,12 +3,14 @@
 #![tactic(auto)]
 
 use held::explanation::Explanation;
+use held::links::Link;
+use held::memory::Memory;
 use held::places::{Held, Place};
-use judge::answers::{Head, Left};
-use judge::cycle::head;
+use judge::answers::Head;
 use judge::decides::Decides;
+use judge::judge::Judge;
+use judge::left::Left;
 use model::deciding::read_model;
-use problem::problem::Problem;
 use problem::take::take;
 use std::time::Instant;
 use std::{env, fs, io};
@@ -16,39 +18,35 @@ use std::{env, fs, io};
 const STEPS: usize = 4096;
 
 // What the goal is judged to be, and the steps that were left.
-fn once<D: Decides>(problem: &Problem, decider: &D, memory: &mut [Place]) -> (&'static str, usize) {
-    if memory.len() < 6 * STEPS {
+fn once<D: Decides>(judge: &Judge<'_, D>, places: &mut [Place]) -> (&'static str, usize) {
+    if places.len() < 6 * STEPS {
         return ("no room", STEPS);
     }
-    let mut left = Left {
-        steps: STEPS,
-        top: 0,
-    };
+    let mut left = Left::new(Memory::new(places), STEPS);
     let mut because = Explanation::nothing();
-    let place = problem.goal(0);
-    let judged = match head(
-        problem,
-        decider,
-        memory,
+    let place = judge.problem.goal(0);
+    let judged = match judge.head(
         &mut left,
         &mut because,
-        Held::Term { place, env: 0 },
+        Held::Term {
+            place,
+            env: Link::NONE,
+        },
     ) {
-        Head::Is { constructor, .. } => { if constructor == 0 { "false" } else { "true" } }
-        Head::Waits(_) => "waiting",
-        Head::Out => "out",
+        Some(Head::Is { constructor, .. }) => { if constructor == 0 { "false" } else { "true" } }
+        Some(Head::Waits(_)) => "waiting",
+        None => "out",
     };
     (judged, left.steps)
 }
 
 fn measure<D: Decides>(
     rt: &HostRuntime,
-    problem: &Problem,
-    decider: &D,
-    memory: &mut [Place],
+    judge: &Judge<'_, D>,
+    places: &mut [Place],
     times: u32,
 ) -> io::Result<()> {
-    let (judged, left) = once(problem, decider, memory);
+    let (judged, left) = once(judge, places);
     let steps = STEPS.saturating_sub(left);
     if times == 0 {
         return println!(rt; "{judged}, {steps} steps");
@@ -56,7 +54,7 @@ fn measure<D: Decides>(
     let start = Instant::now(rt)?;
     let mut all: u128 = 0;
     for _ in 0..times {
-        let (_, left) = once(problem, decider, memory);
+        let (_, left) = once(judge, places);
         all = all.saturating_add(STEPS.saturating_sub(left) as u128);
     }
     let micros = start.elapsed(rt)?.as_micros();
@@ -80,14 +78,15 @@ fn main(rt: HostRuntime) -> io::Result<()> {
     let heap = rt.alloc();
     let bytes = fs::read(&rt, path.as_str())?;
     let problem = take(heap, bytes.as_slice())?;
-    let blank = Place {
-        held: Held::Missing,
-        next: 0,
-        size: 0,
-    };
-    let mut memory = vec![in heap; blank; 6 * STEPS]?;
+    let mut places = vec![in heap; Place::BLANK; 6 * STEPS]?;
     match read_model(&problem, &[]) {
-        Ok(model) => measure(&rt, &problem, &model, memory.as_mut_slice(), times),
+        Ok(model) => {
+            let judge = Judge {
+                problem: &problem,
+                decider: &model,
+            };
+            measure(&rt, &judge, places.as_mut_slice(), times)
+        }
         Err(_) => println!(rt; "the problem has unknowns"),
     }
 }

@@ -39,7 +39,7 @@ module _ (n : ℕ) (sig : Sig) (bs : List ℕ) (mark t p : ℕ) (deep : length b
   value_open h = by_top (Ok None) h
 
   pub value_built : (c : ℕ) (types : List ℕ) (r : Result ℕ Fault) → Ok (Some c) ≡ top_of sig bs mark t p → types ≡ arguments sig t c → p + 3 ≤ length bs
-      → ((k : ℕ) → length bs ≤ p + 3 + k → r ≡ ends (value_end k sig bs mark) (drop 0 types) (p + 3)) → r ≡ value_end n sig bs mark t p
+      → ((k : ℕ) → length bs ≤ p + 3 + k → r ≡ ends (value_end k sig bs mark) types (p + 3)) → r ≡ value_end n sig bs mark t p
   value_built c types r h is low go =
       go (n - 1) (omega arith) ∙ ap (λ (ts : List ℕ). ends (value_end (n - 1) sig bs mark) ts (p + 3)) is ∙ by_top (Ok (Some c)) h
 
@@ -53,10 +53,9 @@ module _ (one : ℕ → ℕ → Result ℕ Fault) (types : List ℕ) (next p : �
   pub ends_fails : (e : Fault) → next < length types → Err e ≡ one (get_or types next 0) p → Err e ≡ ends one (drop next types) p
   ends_fails e h is = ap (λ (r : Result ℕ Fault). and_then r (ends one (drop (next + 1) types))) is ∙ ap (λ (ts : List ℕ). ends one ts p) (first h)
 
-  pub ends_more : (q : ℕ) (r : Result ℕ Fault) → next < length types → Ok q ≡ one (get_or types next 0) p → r ≡ ends one (drop (next + 1) types) q
-      → r ≡ ends one (drop next types) p
-  ends_more q r h is rest =
-      rest ∙ ap (λ (r : Result ℕ Fault). and_then r (ends one (drop (next + 1) types))) is ∙ ap (λ (ts : List ℕ). ends one ts p) (first h)
+  pub ends_step : (q : ℕ) → next < length types → Ok q ≡ one (get_or types next 0) p → ends one (drop next types) p ≡ ends one (drop (next + 1) types) q
+  ends_step q h is =
+      sym (ap (λ (r : Result ℕ Fault). and_then r (ends one (drop (next + 1) types))) is ∙ ap (λ (ts : List ℕ). ends one ts p) (first h))
 
 pub within_later : (p q n : ℕ) (r : Result ℕ Fault) → p ≤ q → Within q n r → Within p n r
 within_later p q n (Ok x) le h = (omega arith, h.1)

@@ -1,29 +1,55 @@
 -- One record of model bytes at a time.
-use Rattle.std.proofs.Common.{◌≡◌, ℕ, ◌+◌, ◌<◌, ◌≤◌, Bool, cond, List, [], ◌∷◌, length, get_or, take, drop, Ok, Err, Result, sym, ap, ◌∙◌, add-one, arith, length-take, drop-cons, get_or-take}
+use Rattle.std.proofs.Common.{◌≡◌, ℕ, ◌+◌, ◌<◌, ◌≤◌, Bool, cond, List, [], ◌∷◌, ◌++◌, length, get_or, drop, Ok, Err, Result, sym, refl, ap, ◌∙◌, add-one, arith, drop-cons}
 use Rattle.std.proofs.lemmas.Bool.{lt-ltb, le-ltb}
 use Rattle.syntax.specs.declared.faults.Fault.{Fault}
 use Rattle.syntax.specs.declared.faults.Reason.TheVariants.{BytesAfter}
 use Rattle.syntax.specs.Faults.{fault}
 use Rattle.syntax.specs.Typing.{Sig}
 use Rattle.model.specs.Reading.{and_then, value_end, start_of, preceded, places_from}
-use Rattle.model.specs.Models.{Placed}
 use Rattle.model.proofs.Ends.{drop_none}
 
 pub first : (xs : List ℕ) (i : ℕ) → i < length xs → drop i xs ≡ get_or xs i 0 ∷ drop (i + 1) xs
 first xs i h = drop-cons xs i 0 h ∙ ap (λ j. get_or xs i 0 ∷ drop j xs) (sym (add-one i))
 
-module _ (sig : Sig) (bs types : List ℕ) (k p : ℕ) where
+-- places before those of a result
+abbrev pub after : List ℕ → Result (List ℕ) Fault → Result (List ℕ) Fault
+after [] r = r
+after (x ∷ xs) r = preceded x (after xs r)
+
+after_one : (xs : List ℕ) (x : ℕ) (r : Result (List ℕ) Fault) → after xs (preceded x r) ≡ after (xs ++ x ∷ []) r
+after_one [] x r = refl
+after_one (y ∷ xs) x r = ap (preceded y) (after_one xs x r)
+
+after_fault : (xs : List ℕ) (e : Fault) → after xs (Err e) ≡ Err e
+after_fault [] e = refl
+after_fault (x ∷ xs) e = ap (preceded x) (after_fault xs e)
+
+after_all : (xs : List ℕ) → after xs (Ok []) ≡ Ok xs
+after_all [] = refl
+after_all (x ∷ xs) = ap (preceded x) (after_all xs)
+
+-- The places so far, of the records of the unknowns below k: the next starts at p.
+pub record Rooted (sig : Sig) (bs types roots : List ℕ) (k p : ℕ) : Type 0 where
+  pub long : length roots ≡ k
+  pub low : p ≤ length bs
+  pub whole : places_from sig bs 0 types 0 ≡ after roots (places_from sig bs k (drop k types) p)
+
+pub rooted_none : (sig : Sig) (bs types : List ℕ) → Rooted sig bs types [] 0 0
+rooted_none sig bs types = record { long = refl; low = omega arith; whole = refl }
+
+module _ {sig : Sig} {bs types roots : List ℕ} {k p : ℕ} (so_far : Rooted sig bs types roots k p) where
   at_end : length types ≤ k → places_from sig bs k (drop k types) p ≡ places_from sig bs k [] p
   at_end h = ap (λ (ts : List ℕ). places_from sig bs k ts p) (drop_none k types h)
 
-  pub places_after : length types ≤ k → p < length bs → places_from sig bs k (drop k types) p ≡ Err (fault BytesAfter p)
-  places_after h lt = at_end h ∙ ap (λ (b : Bool). cond b (Err (fault BytesAfter p)) (Ok [])) (lt-ltb p (length bs) lt)
+  pub rooted_after : length types ≤ k → p < length bs → places_from sig bs 0 types 0 ≡ Err (fault BytesAfter p)
+  rooted_after h lt =
+      so_far.whole ∙ ap (after roots) (at_end h ∙ ap (λ (b : Bool). cond b (Err (fault BytesAfter p)) (Ok [])) (lt-ltb p (length bs) lt))
+      ∙ after_fault roots (fault BytesAfter p)
 
-  pub places_all : (roots : List ℕ) → length types ≤ k → length bs ≤ p
-      → places_from sig bs k (drop k types) p ≡ Ok (drop k (take (length types) roots))
-  places_all roots h le =
-      at_end h ∙ ap (λ (b : Bool). cond b (Err (fault BytesAfter p)) (Ok [])) (le-ltb p (length bs) le)
-      ∙ ap (λ (xs : List ℕ). Ok xs) (sym (drop_none k (take (length types) roots) (omega (arith, length-take (length types) roots))))
+  pub rooted_all : length types ≤ k → length bs ≤ p → places_from sig bs 0 types 0 ≡ Ok roots
+  rooted_all h le =
+      so_far.whole ∙ ap (after roots) (at_end h ∙ ap (λ (b : Bool). cond b (Err (fault BytesAfter p)) (Ok [])) (le-ltb p (length bs) le))
+      ∙ after_all roots
 
   abbrev rest : ℕ → Result ℕ Fault → Result (List ℕ) Fault
   rest v r = and_then r (λ q. preceded v (places_from sig bs (k + 1) (drop (k + 1) types) q))
@@ -37,20 +63,18 @@ module _ (sig : Sig) (bs types : List ℕ) (k p : ℕ) where
       ap (λ (ts : List ℕ). places_from sig bs k ts p) (first types k h)
       ∙ ap (λ (o : Result ℕ Fault). and_then o (λ v. rest v (value v))) (sym e)
 
-  pub places_no_start : (e : Fault) → k < length types → Err e ≡ start_of bs k p → places_from sig bs k (drop k types) p ≡ Err e
-  places_no_start e h is = by_start (Err e) h is
+  pub rooted_no_start : (e : Fault) → k < length types → Err e ≡ start_of bs k p → places_from sig bs 0 types 0 ≡ Err e
+  rooted_no_start e h is = so_far.whole ∙ ap (after roots) (by_start (Err e) h is) ∙ after_fault roots e
 
-  pub places_no_value : (v : ℕ) (e : Fault) → k < length types → Ok v ≡ start_of bs k p → Err e ≡ value v
-      → places_from sig bs k (drop k types) p ≡ Err e
-  places_no_value v e h is no_value = by_start (Ok v) h is ∙ ap (rest v) (sym no_value)
+  pub rooted_no_value : (v : ℕ) (e : Fault) → k < length types → Ok v ≡ start_of bs k p → Err e ≡ value v → places_from sig bs 0 types 0 ≡ Err e
+  rooted_no_value v e h is no_value = so_far.whole ∙ ap (after roots) (by_start (Ok v) h is ∙ ap (rest v) (sym no_value)) ∙ after_fault roots e
 
-  pub places_more : {U : Type 0} (v q : ℕ) (roots : List ℕ) (r : Result U Fault) → k < length types → length types ≤ length roots → Ok v ≡ start_of bs k p
-      → Ok q ≡ value v → get_or roots k 0 ≡ v → Placed (places_from sig bs (k + 1) (drop (k + 1) types) q) (drop (k + 1) (take (length types) roots)) r
-      → Placed (places_from sig bs k (drop k types) p) (drop k (take (length types) roots)) r
-  places_more v q roots (Ok u) h long is there at later =
-      by_start (Ok v) h is ∙ ap (rest v) (sym there) ∙ ap (preceded v) later
-      ∙ ap (λ (xs : List ℕ). Ok xs)
-      (sym (first (take (length types) roots) k (omega (arith, length-take (length types) roots))
-      ∙ ap (λ x. x ∷ drop (k + 1) (take (length types) roots)) (get_or-take (length types) roots k 0 h ∙ at)))
-  places_more v q roots (Err e) h long is there at later =
-      by_start (Ok v) h is ∙ ap (rest v) (sym there) ∙ ap (preceded v) later
+  pub rooted_more : (v q : ℕ) (now : List ℕ) → k < length types → Ok v ≡ start_of bs k p → Ok q ≡ value v → q ≤ length bs
+      → now ≡ roots ++ v ∷ [] → length now ≡ length roots + 1 → Rooted sig bs types now (k + 1) q
+  rooted_more v q now h is there low grown longer = record {
+    long = omega (arith, longer, so_far.long);
+    low = low;
+    whole = so_far.whole ∙ ap (after roots) (by_start (Ok v) h is ∙ ap (rest v) (sym there))
+        ∙ after_one roots v (places_from sig bs (k + 1) (drop (k + 1) types) q)
+        ∙ ap (λ (xs : List ℕ). after xs (places_from sig bs (k + 1) (drop (k + 1) types) q)) (sym grown);
+  }

@@ -1,13 +1,14 @@
 // The unknowns that model bytes decide.
-ghost use Rattle.std.specs.Prelude.{◌≡◌, ℕ, ◌+◌, ◌<◌, ◌≤◌, List, ◌++◌, length, take, drop, slice_index};
+ghost use Rattle.std.specs.Prelude.{◌≡◌, ℕ, ◌+◌, ◌<◌, ◌≤◌, List, ◌++◌, length};
 ghost use Rattle.syntax.specs.Problems.{sig_of};
-ghost use Rattle.model.specs.Reading.{value_end, reading};
-ghost use Rattle.model.specs.Places.{or_stay, starts_from, decided_by};
-ghost use Rattle.model.specs.Models.{Read};
+ghost use Rattle.model.specs.Reading.{places_from, reading};
+ghost use Rattle.model.specs.Places.{starts_from, decided_by};
+ghost use Rattle.model.specs.Models.{Placed, Read};
 
 use crate::declares::Declares;
 use crate::model::Model;
-use crate::value_reading::{read_places, value_end};
+use crate::value_reading::ValueReader;
+use arrayvec::ArrayVec;
 use judge::decides::{Choice, Decides};
 use syntax::faults::{Fault, Reason};
 
@@ -18,59 +19,68 @@ pub fn read_model<'a, P: Declares>(problem: &'a P, bytes: &'a [u8]) -> Result<Mo
     if bytes.len() > 16384 {
         return Err(Reason::TooLong.at(16384));
     }
-    let types = problem.unknown_types();
-    let mut roots = [0; 16];
-    read_places(problem, bytes, types, &mut roots, 0, 0)?;
+    let roots = read_roots(problem, bytes)?;
     Ok(Model {
         problem,
         bytes,
-        count: types.len(),
         roots,
     })
 }
 
-// Where the value after this one starts. In a model that was read, values do not fail.
-fn next_start<P: Declares>(problem: &P, bytes: &[u8], ty: u8, place: usize) -> usize
-    requires short { length bytes.now ≤ 16384 }
-    requires low { place ≤ length bytes.now }
-    ensures within { result ≤ length bytes.now }
-    ensures exact { result ≡ or_stay place (value_end (length bytes.now) (sig_of (P.declares problem.now)) bytes.now 0 ty place) }
+// The places of the values.
+fn read_roots<P: Declares>(problem: &P, bytes: &[u8]) -> Result<ArrayVec<u16, 16>, Fault>
+    requires { length bytes.now ≤ 16384 }
+    ensures { Placed (places_from (sig_of (P.declares problem.now)) bytes.now 0 (P.declares problem.now).unknowns 0) result }
 {
-    match value_end(problem, bytes, 0, ty, place) {
-        Ok(end) => end,
-        Err(_) => place,
+    let mut roots = ArrayVec::new();
+    let mut mark = 0;
+    let types = problem.unknown_types();
+    for (number, ty) in types.iter().enumerate() {
+        let reader = ValueReader {
+            problem,
+            bytes,
+            mark,
+        };
+        let value = reader.start(number)?;
+        roots.push(value as u16);
+        mark = reader.value_end(*ty, value)?;
     }
+    if mark < bytes.len() {
+        return Err(Reason::BytesAfter.at(mark));
+    }
+    Ok(roots)
 }
 
-// Writes where the values start, of the types from `next` on, that stand one after another from a place on.
-fn write_starts<P: Declares>(
-    problem: &P,
-    bytes: &[u8],
-    types: &[u8],
-    children: &mut [u16],
-    next: usize,
-    place: usize,
-)
-    requires short { length bytes.now ≤ 16384 }
-    requires room { length types.now ≤ length children.old }
-    requires low { place ≤ length bytes.now }
-    ensures same { (i : ℕ) → i < next → slice_index children.new i ≡ slice_index children.old i }
-    ensures starts { next ≤ length types.now → drop next (take (length types.now) children.new) ≡ starts_from (sig_of (P.declares problem.now)) bytes.now (drop next types.now) place }
-{
-    if next >= types.len() {
-        return;
+impl<P: Declares> Model<'_, P> {
+    // Where the values start, of these types, that stand one after another from a place on. In a model that was read, they
+    // do not fail.
+    fn starts(&self, types: &[u8], place: usize) -> ArrayVec<u16, 6>
+        requires few { length types.now ≤ 6 }
+        requires low { place ≤ length self.now.bytes.now }
+        ensures { result.items ≡ starts_from (sig_of (P.declares self.now.problem.now)) self.now.bytes.now types.now place }
+    {
+        let reader = ValueReader {
+            problem: self.problem,
+            bytes: self.bytes,
+            mark: 0,
+        };
+        let mut starts = ArrayVec::new();
+        let mut next = place;
+        for ty in types {
+            starts.push(next as u16);
+            next = reader.value_end(*ty, next).unwrap_or(next);
+        }
+        starts
     }
-    children[next] = place as u16;
-    let end = next_start(problem, bytes, types[next], place);
-    write_starts(problem, bytes, types, children, next + 1, end);
 }
 
 impl<P: Declares> Decides for Model<'_, P> {
-    ghost unknowns = { λ s. decided_by (P.Declares.declares s.problem.now) s.bytes.now (take s.count s.roots) };
+    ghost unknowns = { λ s. decided_by (P.Declares.declares s.problem.now) s.bytes.now s.roots.items };
 
     fn root(&self, unknown: u8) -> u16 {
+        let roots = self.roots.as_slice();
         let k = unknown as usize;
-        if k < self.count { self.roots[k] } else { 0 }
+        if k < roots.len() { roots[k] } else { 0 }
     }
 
     fn choice(&self, unknown: u16) -> Option<Choice> {
@@ -82,11 +92,9 @@ impl<P: Declares> Decides for Model<'_, P> {
         let types = self
             .problem
             .argument_types(self.bytes[place + 1], constructor);
-        let mut children = [0; 6];
-        write_starts(self.problem, self.bytes, types, &mut children, 0, place + 3);
+        let children = self.starts(types, place + 3);
         Some(Choice {
             constructor,
-            count: types.len() as u8,
             children,
         })
     }

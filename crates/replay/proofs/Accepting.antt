@@ -1,5 +1,5 @@
 -- A replay is accepted where no refusal holds; its unknowns are those of the model that was read.
-use Rattle.std.proofs.Common.{◌≡◌, ℕ, ◌*◌, ◌≤◌, Bool, cond, eqb, leb, List, length, take, Ok, Err, Result, ap, ◌∙◌}
+use Rattle.std.proofs.Common.{◌≡◌, ℕ, ◌*◌, ◌≤◌, Bool, cond, eqb, leb, List, length, Ok, Err, Result, ap, ◌∙◌}
 use Rattle.std.proofs.lemmas.Bool.{le-leb, eq-eqb, and_from}
 use Rattle.syntax.specs.Problems.{Problem as Meaning}
 use Rattle.problem.specs.declared.problem.Problem.{Problem}
@@ -24,9 +24,9 @@ is_accepted p bytes roots steps places n low high room long ok =
     ∙ ap whole ok
 
 pub same_answer : (p : Problem) (bytes roots : List ℕ) (m : Model Problem) (steps g : ℕ) → Holds p bytes roots m
-    → answer_of (meant p) (decided_by (meant m.problem.now) m.bytes.now (take m.count m.roots)) steps g
+    → answer_of (meant p) (decided_by (meant m.problem.now) m.bytes.now m.roots.items) steps g
     ≡ answer_of (meant p) (decided_by (meant p) bytes roots) steps g
 same_answer p bytes roots m steps g h =
-    ap (λ (q : Problem). answer_of (meant p) (decided_by (meant q) m.bytes.now (take m.count m.roots)) steps g) h.problem_is
-    ∙ ap (λ (bs : List ℕ). answer_of (meant p) (decided_by (meant p) bs (take m.count m.roots)) steps g) h.bytes_is
+    ap (λ (q : Problem). answer_of (meant p) (decided_by (meant q) m.bytes.now m.roots.items) steps g) h.problem_is
+    ∙ ap (λ (bs : List ℕ). answer_of (meant p) (decided_by (meant p) bs m.roots.items) steps g) h.bytes_is
     ∙ ap (λ (rs : List ℕ). answer_of (meant p) (decided_by (meant p) bytes rs) steps g) h.roots_is

@@ -3,6 +3,7 @@ ghost use Rattle.std.specs.Prelude.{◌≡◌};
 ghost use Rattle.replay.specs.declared.faults.ReplayFault.TheVariants.{BadModel};
 ghost use Rattle.replay.specs.Numbers.{number_of};
 
+use std::fmt;
 use syntax::faults::Fault;
 
 #[derive(Clone, Copy)]
@@ -31,6 +32,21 @@ impl ReplayFault {
             ReplayFault::Places => 42,
             ReplayFault::AnswerLength => 53,
             ReplayFault::BadModel(_) => 50,
+        }
+    }
+}
+
+// The number, and after it the reader's own fault.
+impl fmt::Display for ReplayFault {
+    fn fmt<W: fmt::Write>(&self, f: &mut fmt::Formatter<W>) -> fmt::Result {
+        let number = self.number();
+        match self {
+            ReplayFault::BadModel(inner) => {
+                let reason = inner.reason.number();
+                let place = inner.place;
+                write!(f, "{number}: {reason} at {place}")
+            }
+            _ => write!(f, "{number}"),
         }
     }
 }

@@ -7,26 +7,24 @@ use crate::faults::ReplayFault;
 use held::explanation::Explanation;
 use held::places::Place;
 use judge::decides::Decides;
-use judge::goals::judge_goal;
+use judge::judge::Judge;
 use model::deciding::read_model;
 use problem::problem::Problem;
 
 // Judges every goal, each with all the steps, into one byte of the answer.
 fn judge_all<D: Decides>(
-    problem: &Problem,
-    decider: &D,
+    judge: &Judge<'_, D>,
     steps: usize,
-    memory: &mut [Place],
+    places: &mut [Place],
     answer: &mut [u8],
 )
-    requires room { 6 * steps ≤ length memory.old }
-    requires long { length answer.old ≡ length (meant problem.now).goals }
-    ensures { (g : ℕ) → g < length answer.new → slice_index answer.new g ≡ answer_of (meant problem.now) (D.unknowns decider.now) steps g }
+    requires room { 6 * steps ≤ length places.old }
+    requires long { length answer.old ≡ length (meant judge.now.problem.now).goals }
+    ensures { (g : ℕ) → g < length answer.new → slice_index answer.new g ≡ answer_of (meant judge.now.problem.now) (D.unknowns judge.now.decider.now) steps g }
 {
-    for goal in 0..answer.len() {
+    for (goal, byte) in answer.iter_mut().enumerate() {
         let mut because = Explanation::nothing();
-        let judgement = judge_goal(problem, decider, memory, &mut because, steps, goal);
-        answer[goal] = judgement.byte();
+        *byte = judge.judge_goal(places, &mut because, steps, goal).byte();
     }
 }
 
@@ -51,6 +49,10 @@ pub fn replay<'a>(
         return Err(ReplayFault::AnswerLength);
     }
     let model = read_model(problem, bytes)?;
-    judge_all(problem, &model, steps, memory, answer);
+    let judge = Judge {
+        problem,
+        decider: &model,
+    };
+    judge_all(&judge, steps, memory, answer);
     Ok(())
 }

@@ -1,9 +1,8 @@
 // Judges the goals of a problem under a model: `replay_model PROBLEM MODEL`, both files. Each goal has 4,096 steps.
 #![tactic(auto)]
 
-use held::places::{Held, Place};
+use held::places::Place;
 use problem::take::take;
-use replay::faults::ReplayFault;
 use replay::replay::replay;
 use std::{env, fs, io};
 use syntax::faults::Fault;
@@ -12,6 +11,7 @@ use verdict::check::check;
 const STEPS: usize = 4096;
 
 // A byte of the answer, as a word.
+// Kept as it is: `replay` answers in bytes that its caller lends, and these numbers are its documented form.
 fn word(byte: u8) -> &'static str {
     match byte {
         0 => "false",
@@ -27,31 +27,13 @@ fn tell_fault(rt: &HostRuntime, fault: Fault) -> io::Result<()> {
     println!(rt; "refused {number} at {place}")
 }
 
-// A refusal of the replay; the reader's own fault comes after the number.
-fn tell_refusal(rt: &HostRuntime, fault: ReplayFault) -> io::Result<()> {
-    let number = fault.number();
-    match fault {
-        ReplayFault::BadModel(inner) => {
-            let reason = inner.reason.number();
-            let place = inner.place;
-            println!(rt; "refused {number}: {reason} at {place}")
-        }
-        _ => println!(rt; "refused {number}"),
-    }
-}
-
 fn run(rt: &HostRuntime, bytes: &[u8], model: &[u8]) -> io::Result<()> {
     if let Err(fault) = check(bytes) {
         return tell_fault(rt, fault);
     }
     let heap = rt.alloc();
     let problem = take(heap, bytes)?;
-    let blank = Place {
-        held: Held::Missing,
-        next: 0,
-        size: 0,
-    };
-    let mut memory = vec![in heap; blank; 6 * STEPS]?;
+    let mut memory = vec![in heap; Place::BLANK; 6 * STEPS]?;
     let mut answer = vec![in heap; 0u8; problem.goals()]?;
     if let Err(fault) = replay(
         &problem,
@@ -60,7 +42,7 @@ fn run(rt: &HostRuntime, bytes: &[u8], model: &[u8]) -> io::Result<()> {
         memory.as_mut_slice(),
         answer.as_mut_slice(),
     ) {
-        return tell_refusal(rt, fault);
+        return println!(rt; "refused {fault}");
     }
     for (goal, byte) in answer.as_slice().iter().enumerate() {
         let judged = word(*byte);

@@ -6,4 +6,4 @@ use Rattle.replay.proofs.replay.judge_all.Given as goal
 abbrev pub invariant-loop-goal : goal.invariant-loop-goal
 invariant-loop-goal g l =
     (k : ℕ) → k < l.goal
-    → get_or l.answer k 0 ≡ answer_of (meant l.problem) (g.D.Decides.unknowns l.decider) l.steps k
+    → get_or l.answer k 0 ≡ answer_of (meant l.judge.problem.now) (g.D.Decides.unknowns l.judge.decider.now) l.steps k

@@ -1,0 +1,24 @@
+// What the judge has left to work with.
+ghost use Rattle.std.specs.Prelude.{◌≡◌, ℕ};
+
+use held::memory::Memory;
+use held::places::Place;
+
+// The steps that are left, and the memory. Each step pays for six places.
+// Kept as it is: that the places suffice for the steps stands in the contracts of the judge and not in a ghost field,
+// which the check does not cover beside a `&mut`.
+#[derive(Drop)]
+pub struct Left<'a> {
+    pub memory: Memory<'a>,
+    pub steps: usize,
+}
+
+impl<'a> Left<'a> {
+    pub fn new(memory: Memory<'a>, steps: usize) -> Left<'a>
+        ensures places { result.memory.places.now ≡ memory.entry.places.now }
+        ensures top { result.memory.top ≡ memory.entry.top }
+        ensures steps { result.steps ≡ steps }
+    {
+        Left { memory, steps }
+    }
+}
