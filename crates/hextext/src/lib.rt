@@ -5,6 +5,7 @@ ghost use Rattle.std.specs.Prelude.{◌≡◌, ◌*◌, ◌/◌, length, take, I
 ghost use Rattle.std.specs.List.{filter};
 ghost use Rattle.hex.specs.Hex.{decode_of, is_hex_digit};
 
+use hex::FromHexError;
 use std::alloc::{AllocError, Global};
 
 // The digits among some bytes.
@@ -21,13 +22,23 @@ fn digits_of(heap: Global, text: &[u8]) -> Result<Vec<u8>, AllocError>
 }
 
 // The bytes that pairs of digits write. What stands between digits is passed over, and so is a last digit without a second.
-pub fn bytes_of(heap: Global, text: &[u8]) -> Result<Vec<u8>, AllocError>
+pub fn bytes_of(heap: Global, text: &[u8]) -> Result<Vec<u8>, FromHexError>
     ensures { IfOk result (λ v. let digits = filter is_hex_digit text.now in decode_of (take (length digits / 2 * 2) digits) ≡ Ok v.items) }
 {
     let digits = digits_of(heap, text)?;
     let paired = digits.len() / 2 * 2;
-    match hex::decode(heap, &digits[..paired]) {
-        Ok(bytes) => Ok(bytes),
-        Err(_) => Err(AllocError),
+    hex::decode(heap, &digits[..paired])
+}
+
+#[cfg(test)]
+mod tests {
+    use super::*;
+    use std::test::Fail;
+
+    #[test]
+    fn pairs_between_blanks(rt: HostRuntime) -> Result<(), Fail> {
+        let bytes = bytes_of(rt.alloc(), b"44 5-4 fF 0")?;
+        assert!(rt; bytes.as_slice() == [0x44, 0x54, 0xFF].as_slice());
+        Ok(())
     }
 }

@@ -48,11 +48,16 @@ fn tell_term(rt: &HostRuntime, p: &Problem, start: usize) -> io::Result<()> {
 
 // Kept as it is: types, constructors, functions and goals are gone through by their numbers, here and above, since the calls of a
 // problem take numbers.
-fn tell(rt: &HostRuntime, line: &str) -> io::Result<()> {
+fn tell(rt: &HostRuntime, line: &str) -> anyhow::Result<()> {
     let Some((name, text)) = line.split_once(' ') else {
         return Ok(());
     };
-    let bytes = bytes_of(rt.alloc(), text.as_bytes())?;
+    // A capital letter is no digit here, and is passed over.
+    let small: Vec<u8> = text
+        .bytes()
+        .filter(|b| !b.is_ascii_uppercase())
+        .collect(rt.alloc())?;
+    let bytes = bytes_of(rt.alloc(), small.as_slice())?;
     let p = take(rt.alloc(), bytes.as_slice())?;
     let size = p.bytes().len();
     let unknowns = p.unknowns();
@@ -73,7 +78,7 @@ fn tell(rt: &HostRuntime, line: &str) -> io::Result<()> {
     Ok(())
 }
 
-fn main(rt: HostRuntime) -> io::Result<()> {
+fn main(rt: HostRuntime) -> anyhow::Result<()> {
     for line in BufReader::new(rt.alloc(), rt.stdin())?.lines(rt.alloc()) {
         tell(&rt, line?.as_str())?;
     }
