@@ -4,7 +4,6 @@ use Rattle.std.proofs.lemmas.List.{length-take-le, length-drop, map-append, drop
 use native.Mathlib.Nat.{add-mul, one-mul}
 use Rattle.chooser.specs.Ways.{lit, some}
 use Rattle.rows.specs.Lits.{Turned}
-use Rattle.rows.proofs.Lits.{false_from}
 use Rattle.weight.specs.Weight.{weight, digits}
 use Rattle.weight.proofs.Rises.{bounded, pushes, jumps}
 use Rattle.implied.specs.Implied.{allowed}
@@ -18,7 +17,7 @@ use Rattle.trail.specs.Steps.{Placed, Pushed}
 use Rattle.trail.proofs.Sounds.{digits_more, digits_long, digit_some, step_taken}
 use Rattle.activity.specs.Cuts.{Kept}
 use Rattle.analyze.specs.Analysis.{Place}
-use Rattle.cdcl_steps.specs.Search.{Jumped, Jumps, Empty, top, measure}
+use Rattle.cdcl_steps.specs.Search.{Jumped, top, measure}
 
 digit_good : (r : Reason) → digits (digit r ∷ []) ≡ true
 digit_good Decision = refl
@@ -105,9 +104,6 @@ pub placed_from : (t u : Search) (l : ℕ) (reason : Reason) (r : Bool) → Push
 placed_from t u l reason true p free = (refl, p)
 placed_from t u l reason false p free = absurd (p.1 free)
 
-pub empty_from : (row : List ℕ) → ((p : ℕ → Bool) → allowed row p ≡ true → ⊥) → Empty row
-empty_from row none p = false_from (allowed row p) (none p)
-
 -- what followed behind the first k steps follows behind them where the trail ends there
 pub follows_cut : (row row' : List ℕ) (steps steps' : List Step) (k l : ℕ) → row' ≡ row → steps' ≡ take k steps → k < length steps → Follows (allowed row) steps k l → Follows (allowed row') steps' (length steps') l
 follows_cut row row' steps steps' k l rows is lt h p x along =
@@ -125,14 +121,3 @@ module _ (X : (ℕ → Bool) → Bool) (clause : List ℕ) (t u w v : Search) (k
 
   pub placed : Placed w v (get_or clause 0 0) reason
   placed = put.1
-
-  pub jumped_to : Jumps t v r
-  jumped_to =
-      subst (Jumps t v) (sym put.0) (record {
-        k = k;
-        before = at.before;
-        decision = at.decision;
-        step = record { literal = get_or clause 0 0; level = placed.level; reason = reason };
-        forced = follows;
-        steps = placed.steps ∙ ap (λ z. z ++ record { literal = get_or clause 0 0; level = placed.level; reason = reason } ∷ []) (ap (λ z. z.steps.items) same ∙ kept.steps);
-      })

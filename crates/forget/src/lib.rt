@@ -14,6 +14,7 @@ fn sift(facts: &Facts, spare: &mut Pool, watches: &mut Watches, now: u32, window
     ensures { Met (allowed facts.now.store.row.items) spare.new }
 {
     let mut learned: usize = 0;
+    // Kept as it is: what is wanted is the clause's number, as where clauses are watched.
     for c in 0..4294967295 {
         let Some(clause) = facts.pool.clause(c) else {
             break;

@@ -7,6 +7,7 @@ use std::marker::Model;
 
 // A list of clauses in room that is reserved once: they lie one after another in a run of numbers, each as its length and then
 // its literals, and `starts` has where each of them starts.
+// Kept as it is: a `Vec` for each clause would allocate, and nothing is allocated after a chooser is made.
 #[derive(Drop)]
 pub struct Pool {
     numbers: Vec<u16>,

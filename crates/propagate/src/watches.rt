@@ -6,8 +6,9 @@ use rows::turned;
 use std::alloc::{AllocError, Global};
 use trail::{Reason, Search, Trail};
 
-// No watch. Kept as it is: where a list ends with `None` in place of this number, each link takes 8 bytes and not 4, and the
-// memory of a chooser is documented.
+// No watch.
+// Kept as it is: a list that ends with `None` in place of this number takes 8 bytes and not 4 for each link, and a watch that is
+// a struct of the clause and the side as much: the documented memory of a chooser needs the numbers.
 const NONE: u32 = 4294967295;
 
 // Clauses from this number on are not watched, so that the watches of all others have numbers below `NONE`.
@@ -139,6 +140,7 @@ impl Watches {
     pub fn propagate(&mut self, search: &mut Search, from: usize) -> Option<u32>
         ensures { Stopped search.old search.new result }
     {
+        // Kept as it is: the trail grows while it is gone over, which no iterator over it allows.
         let mut queue = from;
         while queue < search.trail.steps.len() {
             let l = turned(search.trail.steps[queue].literal);
@@ -154,6 +156,8 @@ impl Watches {
     // Empties the lists, and watches two literals of each clause, such as are not false if it has them.
     pub fn watch_all(&mut self, search: &Search) {
         self.first.fill(NONE);
+        // Kept as it is: what is wanted is the clause's number; an iterator over the pool would be a type with a proof of its
+        // own, and each user would count beside it.
         for c in 0..MOST_WATCHED {
             let Some(clause) = search.facts.pool.clause(c) else {
                 return;

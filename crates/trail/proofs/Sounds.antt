@@ -1,5 +1,5 @@
 -- A sound trail stays sound when a literal is put on it or taken back, and what its values show.
-use Rattle.std.proofs.Common.{◌≡◌, ℕ, ◌+◌, ◌-◌, ◌/◌, ◌%◌, ◌*◌, ◌<◌, ◌≤◌, Bool, true, false, List, [], ◌∷◌, ◌++◌, length, get_or, take, set, replicate, ◌≢◌, sym, refl, ap, ◌∙◌, subst, ⊎_elim, arith, length-set, length-append, get_or-set_other, get_or-set_same}
+use Rattle.std.proofs.Common.{◌≡◌, ℕ, ◌+◌, ◌-◌, ◌/◌, ◌%◌, ◌*◌, ◌<◌, Bool, true, false, List, [], ◌∷◌, ◌++◌, length, get_or, take, set, replicate, ◌≢◌, sym, refl, ap, ◌∙◌, subst, ⊎_elim, arith, length-set, length-append, get_or-set_other, get_or-set_same}
 use Rattle.std.proofs.lemmas.Bool.{cases_eq, cases_lt}
 use Rattle.std.proofs.lemmas.List.{get_or_append_left, get_or-take, length-take-le, length-replicate, map-append, length-map, get_or-replicate}
 use Rattle.std.proofs.Math.Seq.{get_or-append_seam}
@@ -17,11 +17,8 @@ use Rattle.trail.specs.Trails.{step_at, literal_at, Along, Follows, Sound, Grew,
 use Rattle.trail.proofs.Values.{making_closed, making_not_open, making_other, making_parity, opens_most, opens_set, opens_less}
 
 -- steps that agree below i are true along the same ways
-pub along_same : (p : ℕ → Bool) (a b : List Step) (i : ℕ) → ((j : ℕ) → j < i → step_at b j ≡ step_at a j) → Along p b i → Along p a i
+along_same : (p : ℕ → Bool) (a b : List Step) (i : ℕ) → ((j : ℕ) → j < i → step_at b j ≡ step_at a j) → Along p b i → Along p a i
 along_same p a b i same h j lt = ap (λ (s : Step). lit p s.literal) (sym (same j lt)) ∙ h j lt
-
-pub along_less : (p : ℕ → Bool) (a : List Step) (k i : ℕ) → k ≤ i → Along p a i → Along p a k
-along_less p a k i le h j lt = h j (omega arith)
 
 pub step_old : (steps : List Step) (st : Step) (j : ℕ) → j < length steps → step_at (steps ++ st ∷ []) j ≡ step_at steps j
 step_old steps st j lt = get_or_append_left steps (st ∷ []) (record { literal = 0; level = 0; reason = Known }) j lt
@@ -124,7 +121,7 @@ module _ (X : (ℕ → Bool) → Bool) (values : List Value) (positions : List �
         }
 
   -- the opposite of a literal that is false stands on the trail
-  pub refuted_by : (l : ℕ) → Refuted values l → (j : ℕ) × (j < length steps) × Turned l (literal_at steps j)
+  refuted_by : (l : ℕ) → Refuted values l → (j : ℕ) × (j < length steps) × Turned l (literal_at steps j)
   refuted_by l f =
       let r = 2 * (l / 2) + (1 - l % 2) in
       let half : r / 2 ≡ l / 2 = omega arith in

@@ -9,7 +9,8 @@ pub enum Value {
     Open,
 }
 
-// Why a literal stands on the trail: it was decided, it is known true, or it follows by a clause of the pool.
+// Why a literal stands on the trail: it was decided, it is known true or follows by a clause that was not kept, or it follows by
+// a clause of the pool.
 #[derive(Clone, Copy, PartialEq, Eq, Debug)]
 pub enum Reason {
     Decision,

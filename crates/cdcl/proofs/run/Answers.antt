@@ -1,4 +1,4 @@
-use Rattle.std.proofs.Common.{◌≡◌, ◌-◌, ◌<◌, sym, inr, ◌∙◌, ap, subst, arith}
+use Rattle.std.proofs.Common.{◌<◌, sym, inr, ◌∙◌, ap, subst, arith}
 use Rattle.trail.specs.declared.step.Reason.TheVariants.{Decision}
 use Rattle.decisions.proofs.Orders.{ordered_placed}
 use Rattle.cdcl_steps.specs.Search.{measure}

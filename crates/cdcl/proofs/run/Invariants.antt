@@ -6,7 +6,7 @@ use Rattle.cdcl.proofs.run.Given as goal
 abbrev pub invariant-turn : goal.invariant-turn
 invariant-turn l = record {
   store : l.solver.search.facts.store ≡ l.initial.solver.search.facts.store;
-  planned : Planned l.given l.solver.search.trail.steps.items l.plan
+  planned : Planned l.given l.solver.search.trail.steps.items l.plan;
 }
 
 abbrev pub decreases-turn : goal.decreases-turn

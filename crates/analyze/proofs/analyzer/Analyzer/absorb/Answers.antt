@@ -1,4 +1,4 @@
-use Rattle.std.proofs.Common.{◌≡◌, ◌+◌, ◌-◌, ℕ, ◌<◌, get_or, Some, None, ap, ◌∙◌, inl, inr, subst, sym, rules, arith}
+use Rattle.std.proofs.Common.{get_or, ap, ◌∙◌, inl, inr, subst, sym, rules, arith}
 use Rattle.chooser.specs.Ways.{lit, some}
 use Rattle.implied.specs.Implied.{allowed}
 use Rattle.implied.proofs.Pools.{below_more}

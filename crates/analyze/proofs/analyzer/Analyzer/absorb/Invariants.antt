@@ -8,5 +8,5 @@ abbrev pub invariant-loop-m : goal.invariant-loop-m
 invariant-loop-m l = record {
   grows : Grows l.initial.self.seen.items l.self.seen.items;
   clause : l.self.clause ≡ l.initial.self.clause;
-  parts : (p : ℕ → Bool) → allowed l.search.facts.store.row.items p ≡ true → (k : ℕ) → k < l.m-index → Part p l.search.trail.steps.items l.self.seen.items l.i l.but (get_or l.clause k 0)
+  parts : (p : ℕ → Bool) → allowed l.search.facts.store.row.items p ≡ true → (k : ℕ) → k < l.m-index → Part p l.search.trail.steps.items l.self.seen.items l.i l.but (get_or l.clause k 0);
 }

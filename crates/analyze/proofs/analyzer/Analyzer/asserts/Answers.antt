@@ -1,4 +1,4 @@
-use Rattle.std.proofs.Common.{◌≡◌, ◌+◌, ◌-◌, ℕ, ◌<◌, get_or, Some, None, sym, ◌∙◌, leb-true, arith}
+use Rattle.std.proofs.Common.{ℕ, ◌<◌, get_or, sym, ◌∙◌, leb-true, arith}
 use Rattle.rows.specs.Lits.{Turned}
 use Rattle.trail.specs.Trails.{literal_at}
 use Rattle.implied.proofs.Pools.{below_more}

@@ -1,9 +1,9 @@
-use Rattle.std.proofs.Common.{◌≡◌, ℕ, ◌+◌, ◌-◌, List, ◌∷◌, ◌++◌, [], Some, None, Option, sym, ap, ◌∙◌, subst, arith}
+use Rattle.std.proofs.Common.{◌≡◌, ◌+◌, ◌-◌, sym, ap, ◌∙◌, subst, arith}
 use Rattle.rows.specs.Lits.{Turned}
 use Rattle.implied.specs.Implied.{allowed}
 use Rattle.trail.specs.declared.step.Reason.TheVariants.{Decision}
 use Rattle.trail.specs.declared.step.Step.{Step}
-use Rattle.trail.specs.Trails.{step_at, literal_at, Sound}
+use Rattle.trail.specs.Trails.{step_at, literal_at}
 use Rattle.analyze.proofs.Jumps.{Deciding, decide_skip, decide_or}
 use Rattle.analyze.proofs.analyzer.Analyzer.decisions.Goals as goal
 

@@ -1,7 +1,6 @@
-use Rattle.std.proofs.Common.{◌≡◌, ◌+◌, ◌-◌, ◌/◌, true, false, get_or, ◌∷◌, ◌++◌, [], sym, ap, ◌∙◌, subst, arith}
+use Rattle.std.proofs.Common.{◌≡◌, ◌+◌, ◌-◌, ◌/◌, false, get_or, sym, ap, ◌∙◌, subst, arith}
 use Rattle.std.proofs.lemmas.Bool.{both_ways}
 use Rattle.rows.specs.Lits.{Turned}
-use Rattle.implied.specs.Implied.{allowed}
 use Rattle.trail.specs.declared.step.Step.{Step}
 use Rattle.trail.specs.Trails.{literal_at}
 use Rattle.analyze.proofs.Draws.{Walked, walk_skip, walk_keep, walk_take}
@@ -25,8 +24,8 @@ loop-i-preserved c p x =
     let at : l.i ≡ l.i - 1 + 1 = omega arith in
     let old = subst (Walked p steps l.self.seen.items l.self.clause.items) at (l.invariant p x) in
     elim c.else-is_seen.branch [
-      | else-is_seen-via-then-is_seen+else-not-attempt w ↦ 
-          subst (λ z. Walked p steps z.seen.items z.clause.items (l.i - 1)) (sym w.self-is) 
+      | else-is_seen-via-then-is_seen+else-not-attempt w ↦
+          subst (λ z. Walked p steps z.seen.items z.clause.items (l.i - 1)) (sym w.self-is)
           (subst (λ z. Walked p steps w.attempt.new.self.seen.items z.items (l.i - 1)) (sym w.attempt.ensures.clause)
           (walk_take p steps l.self.seen.items w.attempt.new.self.seen.items l.self.clause.items (l.i - 1) old w.attempt.ensures.grows (w.attempt.ensures.absorbed w.if-not-attempt.false p x)))
       | else-is_seen-via-else-is_seen w ↦
