@@ -66,6 +66,7 @@ impl Order {
     }
 
     // Moves the variable of a place up, past the less active ones.
+    // Kept as it is: the loops here and in `sift_down` halve and double a place, which no iterator over the heap does.
     fn sift_up(&mut self, place: usize)
         requires { place < length self.old.heap.items }
         ensures { length self.new.heap.items ≡ length self.old.heap.items }

@@ -80,6 +80,7 @@ impl Analyzer {
     }
 
     // Returns whether each literal of the clause but `l` is off or seen: then taking it in adds nothing.
+    // Kept as it is: `absorb` goes over a clause likewise but marks what it sees, and one function for both would be longer.
     fn covers(&self, search: &Search, c: u32, l: u16) -> bool {
         let facts = &search.facts;
         let Some(clause) = facts.pool.clause(c) else {

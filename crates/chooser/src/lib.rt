@@ -13,17 +13,17 @@ use std::alloc::AllocError;
 use std::error::Error;
 use std::fmt;
 
-// Why a call is refused. A refused call changes nothing.
+// Why a call is refused, with the number by which that is reported. A refused call changes nothing.
 #[derive(Clone, Copy, PartialEq, Eq, Debug)]
 pub enum Fault {
-    // 61: no variable is left.
-    NoVariable,
-    // 62: a literal of a variable that was not allotted.
-    Unallotted,
-    // 63: too few entries are left for the clause.
-    NoEntries,
-    // 64: the answer's length is not the count of variables.
-    WrongLength,
+    // No variable is left.
+    NoVariable = 61,
+    // A literal of a variable that was not allotted.
+    Unallotted = 62,
+    // Too few entries are left for the clause.
+    NoEntries = 63,
+    // The answer's length is not the count of variables.
+    WrongLength = 64,
 }
 
 #[derive(Clone, Copy, PartialEq, Eq, Debug)]
@@ -45,12 +45,7 @@ impl Fault {
     pub fn number(self) -> u8
         ensures { result ≡ fault_number self }
     {
-        match self {
-            Fault::NoVariable => 61,
-            Fault::Unallotted => 62,
-            Fault::NoEntries => 63,
-            Fault::WrongLength => 64,
-        }
+        self as u8
     }
 }
 

@@ -4,6 +4,7 @@ use crate::links::Link;
 
 // A held term: a term, by its place in the problem's bytes, with its environment; or an unknown, by its number.
 // `Missing` is the term false in any environment: what is held where no typed term comes to.
+// Kept as it is: a case and no Option of a held term, since judging goes on with it as with any other.
 // An environment is the link to its newest binding, and to none where nothing is bound.
 #[derive(Clone, Copy)]
 pub enum Held {

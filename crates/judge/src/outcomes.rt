@@ -44,6 +44,7 @@ pub fn and_true(a: Head, own: &Explanation, because: &mut Explanation) -> Head
 }
 
 // The right side of an `and` whose left side waits.
+// Kept as it is: a rule of its own beside the one before, which differs in each answer but one.
 pub fn and_waits(unknown: u16, a: Head) -> Head
     ensures few { Few (Some result) }
     ensures agrees { (x : Text) (l : Rest) (e f : List ℕ) (o : Maybe (HeadOf ℕ × ℕ)) → Agrees x l e f (Some a) o → Agrees x l e f (Some result) (go_on (λ h. give (and_waits unknown h)) o) }

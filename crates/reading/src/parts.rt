@@ -13,6 +13,7 @@ pub enum Tag {
     And,
     Not,
     Equal,
+    // Kept as it is: a case and no Option of a tag, since a byte that is no tag still heads one byte without parts.
     Other,
 }
 

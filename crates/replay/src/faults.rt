@@ -24,6 +24,7 @@ impl From<Fault> for ReplayFault {
 
 impl ReplayFault {
     // The number by which the refusal is reported.
+    // Kept as it is: a case that carries the reader's fault has no number for `as`.
     pub fn number(self) -> u8
         ensures { result ≡ number_of self }
     {

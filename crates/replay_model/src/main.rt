@@ -5,7 +5,6 @@ use held::places::Place;
 use problem::take::take;
 use replay::replay::replay;
 use std::{env, fs, io};
-use syntax::faults::Fault;
 use verdict::check::check;
 
 const STEPS: usize = 4096;
@@ -21,15 +20,9 @@ fn word(byte: u8) -> &'static str {
     }
 }
 
-fn tell_fault(rt: &HostRuntime, fault: Fault) -> io::Result<()> {
-    let number = fault.reason.number();
-    let place = fault.place;
-    println!(rt; "refused {number} at {place}")
-}
-
 fn run(rt: &HostRuntime, bytes: &[u8], model: &[u8]) -> io::Result<()> {
     if let Err(fault) = check(bytes) {
-        return tell_fault(rt, fault);
+        return println!(rt; "refused {fault}");
     }
     let heap = rt.alloc();
     let problem = take(heap, bytes)?;

@@ -5,6 +5,8 @@ ghost use Rattle.syntax.specs.Typing.{cases_of, arguments, params_of, result_of,
 ghost use Rattle.syntax.specs.Tables.{listed, cases_in, declared_in};
 
 // At most six types: the arguments of a constructor, or the parameters of a function.
+// Kept as it is: an array with a count beside it, here and in `Datatype`: a check of bytes has no heap, and its tables are
+// filled with one blank value, which has to be `Copy`.
 #[derive(Clone, Copy)]
 pub struct TypeList {
     pub count: u8,

@@ -48,6 +48,7 @@ impl Trail {
     }
 
     // Returns whether the literal is true.
+    // Kept as it is: two tests of one line each; a test that takes the wanted value would be longer at each call.
     pub fn is_true(&self, l: u16) -> bool
         ensures { result ≡ true → Holds self.now.values l }
     {

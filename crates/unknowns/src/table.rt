@@ -13,6 +13,7 @@ pub struct Unknown {
     pub kids: u16,
 }
 
+// Kept as it is: an array with a length beside it, since a session lies in memory that its caller lends.
 #[derive(Clone, Copy)]
 pub struct Table {
     pub len: usize,
