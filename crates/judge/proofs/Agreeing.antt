@@ -18,8 +18,6 @@ use Rattle.judge.specs.declared.answers.Verdict.{Verdict as CodeVerdict}
 use Rattle.judge.specs.declared.answers.Verdict.TheVariants.{Wait, Same as SameV, Differ}
 use Rattle.judge.specs.Texts.{tlength}
 use Rattle.judge.specs.Means.{HeadAs, Agrees, VerdictAs, Concurs}
-use Rattle.judge.specs.declared.verdicts.Judgement.TheVariants.{False, True}
-use Rattle.judge.specs.Outcomes.{outcome}
 use Rattle.judge.proofs.Sets.{adds_append}
 
 module _ (p : Problem) (K : Unknowns ℕ) where
@@ -79,6 +77,9 @@ pub lost_verdict : {l : Left} {a b : List ℕ} {r : Option CodeVerdict} {o : May
 lost_verdict {l} {a} {b} {r} {o} e q = subst (λ (s : Option CodeVerdict). Concurs l a b s o) (sym e) (record { means = q })
 
 -- an answer of which the case is known
+pub as_none : {x : Text} {l : Left} {a b : List ℕ} {r : Option CodeHead} {o : Maybe (Head ℕ × ℕ)} → r ≡ None → Agrees x l a b r o → o ≡ none
+as_none {x} {l} {a} {b} {r} {o} e h = subst (λ (s : Option CodeHead). HeadAs x l a b s o) e h.means
+
 pub as_head : {x : Text} {l : Left} {a b : List ℕ} {r q : CodeHead} {o : Maybe (Head ℕ × ℕ)} → r ≡ q → Agrees x l a b (Some r) o → HeadAs x l a b (Some q) o
 as_head {x} {l} {a} {b} {r} {q} {o} e h = subst (λ (s : CodeHead). HeadAs x l a b (Some s) o) e h.means
 
@@ -151,11 +152,3 @@ module _ (R : ℕ → Term → Type 0) (A : Asks ℕ) (m : List Place) (top : �
   pairs_more i j count s (x h∷ xs) h[] l a b r pos long rx ry go = absurd (omega arith)
   pairs_more i j count s (x h∷ xs) (y h∷ ys) l a b r pos long rx ry go =
       go x y xs ys rx.1 ry.1 (omega arith) rx.2 ry.2
-
-pub false_said : (c : ℕ) (xs : Helds ℕ) (E : List ℕ) (s : ℕ) → c ≡ 0 → outcome (some (is c xs E, s)) ≡ False
-false_said zero xs E s z = refl
-false_said (suc c) xs E s z = absurd (omega arith)
-
-pub true_said : (c : ℕ) (xs : Helds ℕ) (E : List ℕ) (s : ℕ) → 0 < c → outcome (some (is c xs E, s)) ≡ True
-true_said zero xs E s z = absurd (omega arith)
-true_said (suc c) xs E s z = refl

@@ -8,7 +8,7 @@ use Rattle.judge.specs.Texts.{text_of, tlength}
 use Rattle.judge.proofs.Texts.{reads, shown}
 use Rattle.problem.specs.declared.view.View.TheVariants as view
 use Rattle.judge.proofs.Sets.{adds_none, adds_append, adds_only, explains}
-use Rattle.judge.proofs.Agreeing.{opens, shut, opens_comparing, shut_comparing, stands_missing, stands_unknown, stands_term, stands_is, by, by_verdict, lost, lost_verdict, lost_right, still_waits, as_head, as_verdict, agrees_join, concurs_join, holds_length, and_left_false, and_left_true, pairs_none, pairs_more}
+use Rattle.judge.proofs.Agreeing.{opens, shut, opens_comparing, shut_comparing, stands_missing, stands_unknown, stands_term, stands_is, by, by_verdict, lost, lost_verdict, lost_right, still_waits, as_none, as_head, as_verdict, agrees_join, concurs_join, holds_length, and_left_false, and_left_true, pairs_none, pairs_more}
 use Rattle.judge.proofs.Keeping.{stands_kept, env_kept, row_kept}
 use Rattle.judge.proofs.judge.Judge.+judging.Goals as goal
 
@@ -123,7 +123,7 @@ compared-returns-in_err-second-clause-compared g t c d h k le sh sk =
     let l = c.args.left.now in
     let A : Asks ℕ = judges x.problem K d in
     lost_verdict c.from_residual-in_err-second.ensures
-    (lost_right A k c.in_ok-first.first (c.in_ok-first.ensures.heads d h le sh) (c.in_err-second.ensures.heads d k (omega arith) (stands_kept (Reads x) c.head.ensures.kept c.args.b k sk)).means)
+    (lost_right A k c.in_ok-first.first (c.in_ok-first.ensures.heads d h le sh) (as_none c.in_err-second.was (c.head-2.ensures.heads d k (omega arith) (stands_kept (Reads x) c.head.ensures.kept c.args.b k sk))))
 
 pub compared-returns-then-c-d-clause-compared : goal.compared-returns-then-c-d-clause-compared
 compared-returns-then-c-d-clause-compared g t c d h k le sh sk =
