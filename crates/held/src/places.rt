@@ -15,6 +15,7 @@ pub enum Held {
 
 // A place of the working memory. As an argument it is a held term that stands beside the others. As a binding it is
 // the newest one of an environment: `next` is the environment before it, and `size` counts the bindings up to this one.
+// Kept as it is: bindings name one another by index, since the places are memory that the caller lends.
 #[derive(Clone, Copy)]
 pub struct Place {
     pub held: Held,

@@ -45,6 +45,7 @@ pub struct GoalRecord<'a> {
     pub term: &'a [u8],
 }
 
+// Kept as it is: a function for each kind's mark; as two constants beside the two ghost members it would be as long.
 impl<'a> Record<'a> for TypeRecord<'a> {
     ghost high = { 0x44 };
 

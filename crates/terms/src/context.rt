@@ -12,6 +12,8 @@ use reading::parts::{Part, Tag};
 use syntax::tables::Signature;
 
 // The declarations, and the types of the variables.
+// Kept as it is: that `cut` is at most 64 stands in the contracts of these methods, since a task is an enum, and an enum has no
+// ghost field.
 // Kept as it is: one array of which each scope is a front, as long as its task says, since a check of bytes allocates nothing.
 #[derive(Drop)]
 pub struct Context<'a> {
@@ -219,6 +221,7 @@ impl<'a> Context<'a> {
         ensures { Steps (declared_in self.now.sig) self.now.scope (item_of self.now.scope wanted) wanted.cut b result }
     {
         let Wanted { part, ty, cut } = wanted;
+        // Kept as it is: which part is read is data on the stack of tasks, where no closure can lie without a heap.
         match part {
             Part::Start => self.begin(wanted, b),
             Part::WhichVariable => self.in_scope(cut, b, ty).then_some(None),
