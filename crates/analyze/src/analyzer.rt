@@ -120,11 +120,13 @@ impl Analyzer {
 
     // Goes back over the trail, and writes a clause that every allowed way meets; the last literal first. Returns false where
     // the clause gets too long.
+    // Kept as it is: whether it was drawn is answered beside the clause, which lies in memory that is reserved once.
     fn walk(&mut self, search: &Search) -> bool
         requires begun { (p : ℕ → Bool) → allowed search.now.facts.store.row.items p ≡ true → Wrong p search.now.trail.steps.items self.old.seen.items (length search.now.trail.steps.items) }
         ensures { result ≡ true → Drawn (allowed search.now.facts.store.row.items) self.new.clause.items }
     {
         self.clause.clear();
+        // Kept as it is: the place is wanted with the step, here and in `decisions`; `iter().enumerate().rev()` names the same two.
         for i in (0..search.trail.steps.len()).rev() {
             let l = search.trail.step(i).literal;
             if self.is_seen(l) && !self.attempt(search, i) {

@@ -22,8 +22,8 @@ pub enum Outcome {
 }
 
 // Searches for a way that meets each clause that was added and each assumption.
-// Kept as it is: what holds of `given`, `out` and the plan stands in contracts, here and below: a struct of them would hold a
-// `&mut`, beside which no ghost field stands.
+// Kept as it is: what holds of `out` stands in the contracts here and of `advance`, `choose` and `conclude`, since it is memory
+// lent by a `&mut`, beside which no ghost field stands.
 pub fn run(solver: &mut Solver, given: &[u16], out: &mut [u8]) -> Outcome
     requires few { length out.old ≤ 4096 }
     requires sound { inside (length out.old) 0 solver.old.search.facts.store.row.items ≡ true }

@@ -24,6 +24,7 @@ impl Solver {
     fn learn(&mut self, glue: u16) -> Option<u32>
         requires { Drawn (allowed self.old.search.facts.store.row.items) self.old.analyzer.clause.items }
         ensures store { self.new.search.facts.store ≡ self.old.search.facts.store }
+        ensures off { self.new.search.facts.off ≡ self.old.search.facts.off }
         ensures trail { self.new.search.trail ≡ self.old.search.trail }
     {
         if !self.has_room() {
@@ -46,6 +47,7 @@ impl Solver {
         requires planned { Planned given.now self.old.search.trail.steps.items plan.old }
         requires dead { Dead (allowed self.old.search.facts.store.row.items) self.old.search.trail.steps.items }
         ensures store { self.new.search.facts.store ≡ self.old.search.facts.store }
+        ensures off { self.new.search.facts.off ≡ self.old.search.facts.off }
         ensures planned { Planned given.now self.new.search.trail.steps.items plan.new }
         ensures jumped { Jumps self.old.search self.new.search result }
     {

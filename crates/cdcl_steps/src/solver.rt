@@ -89,6 +89,7 @@ impl Solver {
         requires sound { inside (length out.old) 0 self.old.search.facts.store.row.items ≡ true }
         requires named { allotted (length out.old) given.now ≡ true }
         ensures store { self.new.search.facts.store ≡ self.old.search.facts.store }
+        ensures pool { self.new.search.facts.pool ≡ self.old.search.facts.pool }
         ensures planned { Planned given.now self.new.search.trail.steps.items plan.new }
         ensures grew { Grew self.old.search.trail.steps.items self.new.search.trail.steps.items }
         ensures chosen { Chosen self.new.search given.now plan.new out.new result }
@@ -107,6 +108,7 @@ impl Solver {
     pub fn restart(&mut self, given: &[u16], plan: &mut Plan)
         requires { Planned given.now self.old.search.trail.steps.items plan.old }
         ensures store { self.new.search.facts.store ≡ self.old.search.facts.store }
+        ensures off { self.new.search.facts.off ≡ self.old.search.facts.off }
         ensures planned { Planned given.now self.new.search.trail.steps.items plan.new }
     {
         let first = first_decision(&self.search.trail);

@@ -46,7 +46,8 @@ fn put_known(search: &mut Search, l: u16)
 
 // Marks the literals behind the first `fixed` of the trail known that follow by clauses, as far as these show them.
 fn fix_steps(facts: &mut Facts, trail: &Trail, fixed: usize)
-    ensures { facts.new.store ≡ facts.old.store }
+    ensures store { facts.new.store ≡ facts.old.store }
+    ensures pool { facts.new.pool ≡ facts.old.pool }
 {
     for step in trail.steps.iter().skip(fixed) {
         if let Reason::Clause(c) = step.reason {
@@ -58,6 +59,7 @@ fn fix_steps(facts: &mut Facts, trail: &Trail, fixed: usize)
 // Marks the literals of the trail behind the plan's `fixed` known, while nothing is decided.
 pub fn settle(search: &mut Search, plan: &mut Plan)
     ensures store { search.new.facts.store ≡ search.old.facts.store }
+    ensures pool { search.new.facts.pool ≡ search.old.facts.pool }
     ensures trail { search.new.trail ≡ search.old.trail }
     ensures next { plan.new.next ≡ plan.old.next }
     ensures firm { plan.new.firm ≡ plan.old.firm }

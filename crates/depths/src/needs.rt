@@ -8,8 +8,7 @@ ghost use Rattle.depths.specs.Least.{Leasts};
 use syntax::tables::{Datatype, Signature, TypeList};
 
 // Stands in a table for a type of which no value is known.
-// Kept as it is: a number and no Option, since the table is memory lent by the caller, and its 9 is what `least_of` and the
-// C interface say of such a type.
+// Kept as it is: a number and no Option, since the table is memory that the caller lends, and the format's promises say 9.
 pub(crate) const UNKNOWN: u8 = 9;
 
 // The least depth of a type, as far as it is known.

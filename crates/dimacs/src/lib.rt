@@ -60,7 +60,7 @@ pub fn spelled_stands() -> u8
 }
 
 // Returns the number by which a text calls the literal that is true where a variable has a value.
-// Kept as it is: the value is a byte of a chooser's answer, which the caller lends, and a `bool` would take fewer values.
+// Kept as it is: the value is a byte of an answer that the caller lends, and a narrower type would ask more of callers.
 pub fn true_literal(variable: u16, value: u8) -> i32
     ensures { result ≡ (if nat_eq value 1 then pos (variable + 1) else negsuc variable) }
 {

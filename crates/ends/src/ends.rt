@@ -73,6 +73,7 @@ pub fn fill_ends(bytes: &[u8], sig: Signature, next: &mut [u16])
     ensures exact { next.new ≡ ends_of (declared_in sig.entry) bytes.now }
     ensures ends { Ends (declared_in sig.entry) bytes.now next.new 0 }
 {
+    // Kept as it is: each place is written from the entries behind it, so that the table is read and written by place.
     for p in (0..bytes.len()).rev() {
         let end = end_of(bytes, sig, next, p);
         next[p] = end.min(bytes.len()) as u16;

@@ -14,7 +14,8 @@ fn sift(facts: &Facts, spare: &mut Pool, watches: &mut Watches, now: u32, window
     ensures { Met (allowed facts.now.store.row.items) spare.new }
 {
     let mut learned: usize = 0;
-    // Kept as it is: what is wanted is the clause's number, as where clauses are watched.
+    // Kept as it is: clauses are asked for by number. A pool is seen as a list, and an iterator over it would be one more type with
+    // a proof, for two loops that want the numbers besides.
     for c in 0..4294967295 {
         let Some(clause) = facts.pool.clause(c) else {
             break;
@@ -39,6 +40,7 @@ pub fn forget(
     window: u32,
 ) -> usize
     ensures store { search.new.facts.store ≡ search.old.facts.store }
+    ensures off { search.new.facts.off ≡ search.old.facts.off }
     ensures trail { search.new.trail ≡ search.old.trail }
 {
     spare.clear();

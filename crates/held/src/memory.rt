@@ -9,6 +9,7 @@ use crate::links::Link;
 use crate::places::{Held, Place};
 
 // Places, of which those below `top` are in use.
+// Kept as it is: a number beside the places, since they are memory that the caller lends.
 #[derive(Drop)]
 pub struct Memory<'a> {
     pub places: &'a mut [Place],

@@ -4,10 +4,10 @@ use crate::links::Link;
 
 // A held term: a term, by its place in the problem's bytes, with its environment; or an unknown, by its number.
 // `Missing` is the term false in any environment: what is held where no typed term comes to.
-// Kept as it is: a case and no Option of a held term, since judging goes on with it as with any other.
 // An environment is the link to its newest binding, and to none where nothing is bound.
 #[derive(Clone, Copy)]
 pub enum Held {
+    // Kept as it is: a case and no Option, which each reader would have to match twice: what is missing is judged, as false.
     Missing,
     Term { place: usize, env: Link },
     Unknown(u16),

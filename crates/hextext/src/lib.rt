@@ -1,7 +1,8 @@
 // Bytes that a text writes in hexadecimal.
 #![tactic(auto)]
 
-ghost use Rattle.std.specs.Prelude.{◌≡◌, ◌*◌, ◌/◌, length, take, IfOk};
+ghost use Rattle.std.specs.Prelude.{◌≡◌, ◌*◌, ◌/◌, ◌⊎◌, length, take, Err, IfOk, IfErr};
+ghost use Rattle.hex.specs.declared.error.FromHexError.TheVariants.{OutOfMemory};
 ghost use Rattle.std.specs.List.{filter};
 ghost use Rattle.hex.specs.Hex.{decode_of, is_hex_digit};
 
@@ -23,7 +24,8 @@ fn digits_of(heap: Global, text: &[u8]) -> Result<Vec<u8>, AllocError>
 
 // The bytes that pairs of digits write. What stands between digits is passed over, and so is a last digit without a second.
 pub fn bytes_of(heap: Global, text: &[u8]) -> Result<Vec<u8>, FromHexError>
-    ensures { IfOk result (λ v. let digits = filter is_hex_digit text.now in decode_of (take (length digits / 2 * 2) digits) ≡ Ok v.items) }
+    ensures ok { IfOk result (λ v. let digits = filter is_hex_digit text.now in decode_of (take (length digits / 2 * 2) digits) ≡ Ok v.items) }
+    ensures err { IfErr result (λ e. let digits = filter is_hex_digit text.now in (e ≡ OutOfMemory) ⊎ (decode_of (take (length digits / 2 * 2) digits) ≡ Err e)) }
 {
     let digits = digits_of(heap, text)?;
     let paired = digits.len() / 2 * 2;

@@ -1,4 +1,4 @@
-ghost use Rattle.std.specs.Prelude.{◌≡◌, ℕ, ◌+◌, ◌^◌, ◌<◌, ◌≤◌, Bool, true, false, [], ◌∷◌, ◌++◌, length, IfOk, is_ok, if◌then◌else◌};
+ghost use Rattle.std.specs.Prelude.{◌≡◌, ℕ, ◌+◌, ◌^◌, ◌<◌, ◌≤◌, Bool, true, false, [], ◌∷◌, ◌++◌, length, IfOk, MatchOption, is_ok, if◌then◌else◌};
 ghost use Rattle.chooser.specs.Ways.{lit, some};
 ghost use Rattle.implied.specs.Implied.{allowed, Met, Off};
 
@@ -52,7 +52,8 @@ impl Facts {
     // Marks the literal known true: its opposite is off.
     pub fn mark_true(&mut self, l: u16)
         requires { (p : ℕ → Bool) → allowed self.old.store.row.items p ≡ true → lit p l ≡ true }
-        ensures { self.new.store ≡ self.old.store }
+        ensures store { self.new.store ≡ self.old.store }
+        ensures pool { self.new.pool ≡ self.old.pool }
     {
         let t = turned(l) as usize;
         if t < self.off.len() {
@@ -62,7 +63,8 @@ impl Facts {
 
     // Marks the literal `l` known true, if the clause `c` shows it: each other literal of the clause is off.
     pub fn fix(&mut self, c: u32, l: u16)
-        ensures { self.new.store ≡ self.old.store }
+        ensures store { self.new.store ≡ self.old.store }
+        ensures pool { self.new.pool ≡ self.old.pool }
     {
         let Some(clause) = self.pool.clause(c) else {
             return;
@@ -78,7 +80,9 @@ impl Facts {
     // Puts a clause into the pool that every allowed way meets, and returns its number; None where there is no room.
     pub fn learn(&mut self, clause: &[u16]) -> Option<u32>
         requires { (p : ℕ → Bool) → allowed self.old.store.row.items p ≡ true → some (lit p) clause.now ≡ true }
-        ensures { self.new.store ≡ self.old.store }
+        ensures store { self.new.store ≡ self.old.store }
+        ensures off { self.new.off ≡ self.old.off }
+        ensures pool { MatchOption result (self.new.pool ≡ self.old.pool) (λ c. (c ≡ length self.old.pool) × (self.new.pool ≡ self.old.pool ++ clause.now ∷ [])) }
     {
         self.pool.push(clause)
     }
@@ -86,12 +90,17 @@ impl Facts {
     // Has the clauses of `spare` in place of those in the pool, which `spare` then has.
     pub fn exchange(&mut self, spare: &mut Pool)
         requires { Met (allowed self.old.store.row.items) spare.old }
-        ensures { self.new.store ≡ self.old.store }
+        ensures store { self.new.store ≡ self.old.store }
+        ensures off { self.new.off ≡ self.old.off }
+        ensures pool { self.new.pool ≡ spare.old }
+        ensures spare { spare.new ≡ self.old.pool }
     {
         swap(&mut self.pool, spare);
     }
 
     // Allots a variable and returns its number.
+    // Kept as it is: this call and `add` say what the store's own say, here and in `Search` and `Solver`, since the parts of each
+    // are to stay as its ghost fields want them.
     pub fn new_variable(&mut self) -> Result<u16, Fault>
         ensures grows { NewVariable (store_means self.old.store) (store_means self.new.store) result }
         ensures row { self.new.store.row.items ≡ self.old.store.row.items }

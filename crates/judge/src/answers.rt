@@ -2,6 +2,8 @@
 
 // The head of a held term: the unknown that it waits on; or a constructor, whose arguments stand in the places from
 // `start` on. The judge answers none for want of steps.
+// Kept as it is: a row of arguments is named by its first place and its length, since the places are lent and grow meanwhile; and
+// that it has at most six stands in contracts (`Few`): each place that makes a head would have to show a ghost field likewise.
 #[derive(Clone, Copy)]
 pub enum Head {
     Waits(u16),

@@ -17,7 +17,7 @@ use held::places::{Held, Place};
 
 impl Judgement {
     // The byte that stands for a judgement in an answer.
-    // Kept as it is: a case that carries an unknown has no number for `as`.
+    // Kept as it is: a case carries an unknown, and an enum with such a case has no numbers for `as`.
     pub fn byte(self) -> u8
         ensures { result ≡ byte_of self }
     {

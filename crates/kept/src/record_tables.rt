@@ -7,6 +7,7 @@ use syntax::tables::{Callable, Datatype, Signature, Span};
 use tables::filling::Counts;
 use verdict::workspace::Workspace;
 
+// Kept as it is: least depths stand beside the types, which a `Signature` lends as a slice of their own.
 #[derive(Drop)]
 pub struct Tables {
     pub types: Vec<Datatype>,

@@ -77,6 +77,7 @@ impl<P: Declares> Model<'_, P> {
 impl<P: Declares> Decides for Model<'_, P> {
     ghost unknowns = { λ s. decided_by (P.Declares.declares s.problem.now) s.bytes.now s.roots.items };
 
+    // Kept as it is: 0 for what is no unknown, as the trait's meaning answers every number.
     fn root(&self, unknown: u8) -> u16 {
         let roots = self.roots.as_slice();
         let k = unknown as usize;

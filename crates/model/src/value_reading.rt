@@ -54,6 +54,7 @@ impl<P: Declares> ValueReader<'_, P> {
         ensures exact { result ≡ top_of (sig_of (P.declares self.now.problem.now)) self.now.bytes.now self.now.mark ty place }
         ensures within { Topped place (length self.now.bytes.now) result }
     {
+        // Kept as it is: 8 opens a part and 2 writes a constructor; the tags of terms have no byte for the first.
         let tag = self.byte(place)?;
         if tag == 8 {
             return Ok(None);

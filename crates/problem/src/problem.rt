@@ -8,6 +8,7 @@ ghost use Rattle.kept.specs.Filled.{Holds};
 use kept::record_tables::Tables;
 
 // The check accepts the bytes; each table holds what the problem that they are says.
+// Kept as it is: what is worked out for each type and each byte stands beside them, since types and bytes are lent as slices.
 #[derive(Drop)]
 pub struct Problem {
     pub(crate) bytes: Vec<u8>,

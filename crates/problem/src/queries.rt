@@ -15,8 +15,8 @@ use reading::parts::Tag;
 use syntax::tables::Signature;
 
 // The least depth that stands for a type without a value no deeper than 8.
-// Kept as it is: where a number names nothing, the answer is a number or a place too (9, 1, 0, the end of the bytes) and no Option,
-// since the public calls `least`, `need`, `result`, `body`, `goal` and `after` answer so, and their definitions with them.
+// Kept as it is: where a number names nothing, the answer is a number or a place too (9, 1, 0, the end of the bytes, the place that
+// was asked about): the abstract problem answers every number so, and the judge goes on from these answers without a test.
 const NO_VALUE: u8 = 9;
 
 impl Problem {

@@ -34,7 +34,7 @@ pub enum View {
         left: usize,
         right: usize,
     },
-    // Kept as it is: a case of the view and no Option of one, since the public call `view` answers every place with a View.
+    // Kept as it is: a case and no Option of a view, which each reader would have to match twice.
     Nothing,
 }
 

@@ -7,8 +7,8 @@ use std::alloc::{AllocError, Global};
 use trail::{Reason, Search, Trail};
 
 // No watch.
-// Kept as it is: a list that ends with `None` in place of this number takes 8 bytes and not 4 for each link, and a watch that is
-// a struct of the clause and the side as much: the documented memory of a chooser needs the numbers.
+// Kept as it is: the lists lie in arrays and name their watches by number, since nothing is allocated after a chooser is made. With
+// `None` at their ends each link takes 8 bytes and not 4: 8 more for each of E / 3 + 16,384 clauses, past the documented memory.
 const NONE: u32 = 4294967295;
 
 // Clauses from this number on are not watched, so that the watches of all others have numbers below `NONE`.
@@ -23,7 +23,7 @@ struct Watched {
     // Where the search for another literal begins.
     from: u16,
     // How many levels it joins, 0 for a clause that was added.
-    // Kept as it is: an Option takes 4 bytes more for each clause, and the memory of a chooser is documented.
+    // Kept as it is: an Option takes 4 bytes more for each of E / 3 + 16,384 clauses, past the documented memory.
     glue: u16,
     // When it was last of use.
     used: u32,
@@ -157,8 +157,8 @@ impl Watches {
     // Empties the lists, and watches two literals of each clause, such as are not false if it has them.
     pub fn watch_all(&mut self, search: &Search) {
         self.first.fill(NONE);
-        // Kept as it is: what is wanted is the clause's number; an iterator over the pool would be a type with a proof of its
-        // own, and each user would count beside it.
+        // Kept as it is: clauses are asked for by number. A pool is seen as a list, and an iterator over it would be one more type
+        // with a proof, for two loops that want the numbers besides.
         for c in 0..MOST_WATCHED {
             let Some(clause) = search.facts.pool.clause(c) else {
                 return;

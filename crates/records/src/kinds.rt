@@ -13,6 +13,7 @@ use syntax::faults::Fault;
 const MOST_CONSTRUCTORS: u8 = 16;
 
 // A type: the place of its mark, how many constructors it has, and their lists of types, each led by its length.
+// Kept as it is: a count beside the bytes, since the lists in them differ in length.
 #[derive(Clone, Copy)]
 pub struct TypeRecord<'a> {
     pub at: usize,

@@ -9,6 +9,8 @@ use crate::next::Mark;
 use crate::reader::Reader;
 use syntax::faults::{Fault, Reason};
 
+// Kept as it is: the mark goes with each call, since a reader lasts for many records and a part stands in one.
+
 // The most types that a list may have.
 const MOST_TYPES: u8 = 6;
 

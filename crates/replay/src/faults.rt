@@ -24,7 +24,7 @@ impl From<Fault> for ReplayFault {
 
 impl ReplayFault {
     // The number by which the refusal is reported.
-    // Kept as it is: a case that carries the reader's fault has no number for `as`.
+    // Kept as it is: a case carries the reader's fault, and an enum with such a case has no numbers for `as`.
     pub fn number(self) -> u8
         ensures { result ≡ number_of self }
     {

@@ -14,6 +14,7 @@ pub struct TypeList {
 }
 
 // A type by its constructors, each by the types of its arguments; `at` is the place of its record (0 for Bool, which has none).
+// Kept as it is: no Option of a place, since no fault is ever found at Bool.
 #[derive(Clone, Copy)]
 pub struct Datatype {
     pub at: usize,

@@ -12,8 +12,8 @@ use reading::parts::{Part, Tag};
 use syntax::tables::Signature;
 
 // The declarations, and the types of the variables.
-// Kept as it is: that `cut` is at most 64 stands in the contracts of these methods, since a task is an enum, and an enum has no
-// ghost field.
+// Kept as it is: that `cut` is at most 64 stands in the contracts of these methods. A struct for one number with a ghost field
+// would be taken apart and made anew in each case of a task.
 // Kept as it is: one array of which each scope is a front, as long as its task says, since a check of bytes allocates nothing.
 #[derive(Drop)]
 pub struct Context<'a> {
@@ -59,6 +59,7 @@ impl<'a> Context<'a> {
     }
 
     // The first term of each kind of task, and the rest of the task.
+    // Kept as it is: arguments and parameters differ in the table that is asked, and share the rest in `open_listed`.
     fn open_arguments(&self, of: u8, con: u8, next: u8, cut: u8) -> Opened
         requires left { next < length (arguments (declared_in self.now.sig) of con) }
         requires few { cut ≤ 64 }

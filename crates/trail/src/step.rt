@@ -2,6 +2,7 @@ ghost use Rattle.std.specs.Prelude.{◌≡◌, true, false, ◌≢◌};
 ghost use Rattle.trail.specs.Values.{making};
 
 // The value of a variable.
+// Kept as it is: three cases with names; of an Option<bool> each test would ask twice.
 #[derive(Clone, Copy, PartialEq, Eq, Debug)]
 pub enum Value {
     False,

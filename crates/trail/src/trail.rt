@@ -10,8 +10,8 @@ use std::alloc::{AllocError, Global};
 // Literals in the order in which they were put, and what is known of each variable.
 #[derive(Drop)]
 pub struct Trail {
-    // Kept as it is: a value and a place in one struct take 4 bytes for each variable and not 3, which the documented memory of
-    // a chooser does not allow for.
+    // Kept as it is: values and places in two arrays. Nearly each use asks for one of the two alone, so that a struct of both would
+    // be no plainer.
     pub values: [Value; 4096],
     // Where each variable that has a value stands among the steps.
     pub positions: [u16; 4096],

@@ -5,6 +5,7 @@ ghost use Rattle.std.specs.Prelude.{◌≤◌};
 pub const MOST: usize = 512;
 
 // An unknown: its type and its level; once it is opened, its first variable and the place of its first child.
+// Kept as it is: a place of children beside the Option, since the relation of crates/places gives every unknown one.
 #[derive(Clone, Copy)]
 pub struct Unknown {
     pub ty: u8,
