@@ -18,6 +18,7 @@ const ENTRIES: usize = 65535;
 const LINE: u16 = 10;
 
 // The choosers that can be named.
+// Kept as it is: chooser_bench has such an enum with other words; what they share is one line for each chooser.
 #[derive(Clone, Copy)]
 enum Which {
     Plain,

@@ -11,6 +11,9 @@ use syntax::tables::{Datatype, Signature, TypeList};
 // Kept as it is: a number and no Option, since the table is memory that the caller lends, and the format's promises say 9.
 pub(crate) const UNKNOWN: u8 = 9;
 
+// Kept as it is: `sig` and `least` go side by side, since the one is read and the other filled, and where both are read two
+// references are as short as a struct of them.
+
 // The least depth of a type, as far as it is known.
 fn depth_at(least: &[u8], t: u8) -> u8
     ensures { result ≡ depth_at least.now t }

@@ -7,10 +7,8 @@ use crate::fault::Kind;
 use crate::formula::Formula;
 use crate::reader::Reader;
 use crate::step::{Event, Mode, Stage, State, advance};
-use rows::push_clause;
+use rows::{MOST_ENTRIES, push_clause};
 use std::alloc::{AllocError, Global};
-
-const MOST_ENTRIES: usize = 65535;
 
 impl Reader {
     pub(crate) fn new(heap: Global) -> Result<Reader, AllocError>

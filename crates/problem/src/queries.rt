@@ -147,6 +147,7 @@ impl Problem {
     }
 
     // The byte at a place, 0 past the end.
+    // Kept as it is: one call of the library's, as `at` in crates/ends, which has bytes and no problem; `after` is such a call too.
     fn byte(&self, place: usize) -> u8
         ensures { result ≡ slice_index (held self.now) place }
     {

@@ -1,6 +1,6 @@
 -- From the tables back to the bytes: the terms that the tables locate are those of the records, their places are places of the
 -- bytes, and so each way an examination can end is the verdict.
-use Rattle.std.proofs.Common.{◌≡◌, ℕ, zero, suc, ◌+◌, ◌<◌, ◌≤◌, List, [], ◌∷◌, ◌++◌, map, length, get_or, take, Ok, Err, Result, sym, refl, ap, ◌∙◌, subst, arith, length-append, length-take}
+use Rattle.std.proofs.Common.{◌≡◌, ℕ, zero, suc, ◌+◌, ◌<◌, ◌≤◌, List, [], ◌∷◌, ◌++◌, map, length, get_or, take, Ok, Err, Result, sym, refl, ap, ◌∙◌, subst, arith, length-append}
 use lib.Seq.{take-append-le, take-length}
 use Rattle.std.proofs.lemmas.List.{get_or-map, length-map}
 use Rattle.syntax.specs.declared.faults.Fault.{Fault}
