@@ -3,18 +3,20 @@
 // Usage: chooser_bench plain|learning FILE ..
 #![tactic(auto)]
 
+ghost use Rattle.std.specs.Prelude.{◌≡◌, ℕ, vec_capacity};
+
 use chooser::{Answer, Chooser, Fault};
 use learning::Learning;
 use plain::Plain;
+use rows::MOST_VARIABLES;
 use std::alloc::{AllocError, Global};
-use std::str::SplitWhitespace;
 use std::time::Instant;
 use std::{env, fmt, fs};
 
 const ENTRIES: usize = 65535;
 
-// The most variables that a chooser of any kind has.
-const MOST_VARIABLES: usize = 32768;
+// The most literals of a line; those behind them are dropped.
+const MOST_LITERALS: usize = 4096;
 
 // The choosers that can be named.
 #[derive(Clone, Copy)]
@@ -57,30 +59,69 @@ impl fmt::Display for Score {
     }
 }
 
-fn literal(word: &str) -> Option<u16> {
-    let number = word.parse::<i32>().ok()?;
-    let variable = number.unsigned_abs();
-    if variable == 0 || variable > 4096 {
-        return None;
-    }
-    let positive = 2 * (variable - 1) as u16;
-    Some(if number < 0 { positive + 1 } else { positive })
+// A line of the script that is being read.
+#[derive(Drop)]
+struct Line {
+    call: u8,
+    literals: Vec<u16>,
+    // Kept as it is: a number is read byte by byte, and what was read of it is carried from one byte to the next.
+    number: u32,
+    minus: bool,
+    digits: bool,
+    ghost room: { vec_capacity literals ≡ 4096 },
 }
 
-// Puts the words' literals in place of those that were there; a word that names none is passed over.
-fn read_literals(words: SplitWhitespace, literals: &mut Vec<u16>) -> Result<(), AllocError> {
-    literals.clear();
-    for l in words.filter_map(literal) {
-        literals.push(l)?;
+impl Line {
+    fn new(heap: Global) -> Result<Line, AllocError> {
+        Ok(Line {
+            call: b'c',
+            literals: Vec::with_capacity(heap, MOST_LITERALS)?,
+            number: 0,
+            minus: false,
+            digits: false,
+        })
     }
-    Ok(())
+
+    // Takes the number that was read for a literal, if it names one and there is room.
+    fn push(&mut self) {
+        let room = self.literals.len() < MOST_LITERALS;
+        if self.digits && room && self.number > 0 && self.number <= 4096 {
+            let v = (self.number - 1) as u16;
+            self.literals
+                .push_reserved(if self.minus { 2 * v + 1 } else { 2 * v });
+        }
+        self.digits = false;
+        self.minus = false;
+    }
+
+    fn feed(&mut self, b: u8) {
+        match b {
+            b'-' => {
+                self.minus = true;
+                self.number = 0;
+            }
+            b'0'..=b'9' => {
+                if !self.digits {
+                    self.number = 0;
+                }
+                self.digits = true;
+                self.number = self.number.min(100000) * 10 + (b - b'0') as u32;
+            }
+            b' ' | b'\n' => self.push(),
+            _ => {
+                self.call = b;
+                self.clear();
+            }
+        }
+    }
+
+    // Drops the literals; the call and the number stay.
+    fn clear(&mut self) {
+        self.literals.clear();
+    }
 }
 
-fn allot<C: Chooser>(chooser: &mut C, words: SplitWhitespace) -> Result<(), Fault> {
-    let variables = words
-        .last()
-        .and_then(|word| word.parse::<u32>().ok())
-        .unwrap_or(0);
+fn allot<C: Chooser>(chooser: &mut C, variables: u32) -> Result<(), Fault> {
     for _ in 0..variables {
         chooser.new_variable()?;
     }
@@ -98,24 +139,25 @@ fn ask<C: Chooser>(
     chooser.ask(assumptions, &mut values[..count])
 }
 
-fn play<C: Chooser>(heap: Global, chooser: &mut C, text: &str) -> Result<Score, AllocError> {
-    let mut values = vec![in heap; 0u8; MOST_VARIABLES]?;
-    let mut literals = Vec::new(heap);
+// Runs the call of each line that a newline ends.
+fn play<C: Chooser>(heap: Global, chooser: &mut C, text: &[u8]) -> Result<Score, AllocError> {
+    let mut values = vec![in heap; 0u8; MOST_VARIABLES as usize]?;
+    let mut line = Line::new(heap)?;
     let mut score = Score::default();
-    for line in text.lines() {
-        let mut words = line.split_whitespace();
-        let call = words.next().unwrap_or("");
-        match call {
-            "v" => score.took(allot(chooser, words)),
-            "a" => {
-                read_literals(words, &mut literals)?;
-                score.took(chooser.add(literals.as_slice()));
+    for b in text {
+        line.feed(*b);
+        if *b == b'\n' {
+            match line.call {
+                b'v' => score.took(allot(chooser, line.number)),
+                b'a' => score.took(chooser.add(line.literals.as_slice())),
+                b'q' => score.answered(ask(
+                    chooser,
+                    line.literals.as_slice(),
+                    values.as_mut_slice(),
+                )),
+                _ => {}
             }
-            "q" => {
-                read_literals(words, &mut literals)?;
-                score.answered(ask(chooser, literals.as_slice(), values.as_mut_slice()));
-            }
-            _ => {}
+            line.clear();
         }
     }
     Ok(score)
@@ -125,7 +167,7 @@ fn report<C: Chooser>(
     rt: &HostRuntime,
     chooser: &mut C,
     path: &str,
-    text: &str,
+    text: &[u8],
 ) -> anyhow::Result<()> {
     let start = Instant::now(rt)?;
     let score = play(rt.alloc(), chooser, text)?;
@@ -142,15 +184,15 @@ fn run(rt: &HostRuntime) -> anyhow::Result<()> {
             "plain" => kind = Kind::Plain,
             "learning" => kind = Kind::Learning,
             path => {
-                let text = fs::read_to_string(rt, path)?;
+                let text = fs::read(rt, path)?;
                 match kind {
                     Kind::Plain => {
                         let mut chooser = Plain::new(rt.alloc(), ENTRIES)?;
-                        report(rt, &mut chooser, path, text.as_str())?;
+                        report(rt, &mut chooser, path, text.as_slice())?;
                     }
                     Kind::Learning => {
                         let mut chooser = Learning::new(rt.alloc(), ENTRIES)?;
-                        report(rt, &mut chooser, path, text.as_str())?;
+                        report(rt, &mut chooser, path, text.as_slice())?;
                     }
                 }
             }
