@@ -1,9 +1,5 @@
 // The trail: the literals that were decided or that follow, in their order.
-ghost use Rattle.std.specs.Prelude.{◌≡◌, ℕ, ◌+◌, ◌*◌, ◌/◌, ◌<◌, ◌≤◌, Bool, true, [], ◌∷◌, ◌++◌, length, vec_len, vec_capacity, if◌then◌else◌, nat_eq, slice_index, slice_set};
-ghost use Rattle.chooser.specs.Ways.{allotted};
-ghost use Rattle.backtrack.specs.Values.{bit};
-
-use super::OPEN;
+ghost use Rattle.std.specs.Prelude.{◌≡◌};
 
 // A literal that was put on the trail.
 #[derive(Clone, Copy)]
