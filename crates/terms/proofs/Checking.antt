@@ -1,7 +1,8 @@
 -- The reading of a byte, as the check's loop has it. Assumes nothing.
-use Rattle.std.proofs.Common.{◌≡◌, ℕ, ◌+◌, ◌<◌, ◌≤◌, cond, List, [], ◌∷◌, ◌++◌, length, get_or, drop, Some, None, Ok, Err, Option, Result, MatchOption, subst, sym, refl, ap, ◌∙◌, arith}
+use Rattle.std.proofs.Common.{◌≡◌, ℕ, ◌+◌, ◌<◌, ◌≤◌, cond, List, [], ◌∷◌, ◌++◌, length, get_or, drop, Some, None, Ok, Err, Option, Result, MatchResult, subst, sym, refl, ap, ◌∙◌, arith}
 use Rattle.std.proofs.lemmas.List.{at_drop_more, at_drop_all}
 use Rattle.std.specs.Option.{ok_or}
+use Rattle.std.specs.Result.{result_or}
 use Rattle.syntax.specs.declared.faults.Fault.{Fault}
 use Rattle.syntax.specs.declared.faults.Reason.TheVariants.{BadTerm}
 use Rattle.syntax.specs.Faults.{fault}
@@ -10,10 +11,10 @@ use Rattle.syntax.specs.Typing.{Sig}
 use Rattle.reading.specs.Reading.{Item, asked, made, reads, first_read, verdict}
 use Rattle.terms.specs.Tasks.{Stops, Moves}
 
--- what holds of a value that is there, where it is made an answer
-pub by_ok : {A E : Type 0} (P : Type 0) (Q : A → Type 0) (o : Option A) (e : E) (x : A) → ok_or o e ≡ Ok x → MatchOption o P Q → Q x
-by_ok P Q None e x q m = absurd (cc)
-by_ok P Q (Some y) e x q m = let same : y ≡ x = cc in subst Q same m
+-- what holds of a value, where another error may stand for the error
+pub by_ok : {A D E : Type 0} (P : A → Type 0) (Q : D → Type 0) (r : Result A D) (e : E) (x : A) → result_or r (Err e) ≡ Ok x → MatchResult r P Q → P x
+by_ok P Q (Err d) e x q m = absurd (cc)
+by_ok P Q (Ok y) e x q m = let same : y ≡ x = cc in subst P same m
 
 pub some_by_ok : {A E : Type 0} (o : Option A) (e : E) (x : A) → ok_or o e ≡ Ok x → o ≡ Some x
 some_by_ok None e x q = absurd (cc)

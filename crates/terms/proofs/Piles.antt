@@ -1,5 +1,5 @@
 -- Tasks that are put on a pile, and taken from it. Assumes nothing.
-use Rattle.std.proofs.Common.{◌≡◌, ℕ, zero, suc, ◌+◌, ◌<◌, ◌≤◌, List, [], ◌∷◌, ◌++◌, map, length, take, drop, Some, None, Option, sym, refl, ap, ◌∙◌, subst, arith}
+use Rattle.std.proofs.Common.{◌≡◌, ℕ, zero, suc, ◌+◌, ◌<◌, ◌≤◌, List, [], ◌∷◌, ◌++◌, map, length, take, drop, Some, None, Option, Ok, sym, refl, ap, ◌∙◌, subst, arith}
 use Rattle.std.proofs.lemmas.List.{take-take}
 use Rattle.terms.specs.declared.tasks.Task.{Task}
 use Rattle.terms.specs.declared.tasks.Task.TheVariants.{One, Two, Arguments, Parameters, Case, Branches}
@@ -47,7 +47,7 @@ put_few (Some x) ts = omega arith
 
 -- the topmost task is opened, and a byte is allowed at its first item
 pub advances : (sig : Sig) (s s' : List ℕ) (x : Task) (ts : List Task) (o : Opened) (r : Option Task) (b : ℕ)
-    → Piled sig (x ∷ ts) 64 → Opens sig s s' x o → Steps sig s' (item_of s' o.first) o.first.cut b (Some r)
+    → Piled sig (x ∷ ts) 64 → Opens sig s s' x o → Steps sig s' (item_of s' o.first) o.first.cut b (Ok r)
     → Advances sig s s' (x ∷ ts) (put r (put o.rest ts)) b
 advances sig s s' x ts o r b p q e =
     let others = put o.rest ts in

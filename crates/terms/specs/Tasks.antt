@@ -1,11 +1,12 @@
 -- What a stack of tasks stands for: the items that are still to be read. Assumes nothing.
-use Rattle.std.specs.Prelude.{◌≡◌, ℕ, ◌+◌, ◌<◌, ◌≤◌, true, false, List, [], ◌∷◌, ◌++◌, length, take, drop, Some, None, Option}
+use Rattle.std.specs.Prelude.{◌≡◌, ℕ, ◌+◌, ◌<◌, ◌≤◌, true, false, List, [], ◌∷◌, ◌++◌, length, take, drop, Some, None, Option, Ok, Err, Result}
 use Rattle.syntax.specs.Typing.{Sig, Want, cases_of, arguments, params_of, each_of, branches_of}
 use Rattle.reading.specs.declared.parts.Part.TheVariants.{Start}
 use Rattle.terms.specs.declared.tasks.Wanted.{Wanted}
 use Rattle.terms.specs.declared.tasks.Task.{Task}
 use Rattle.terms.specs.declared.tasks.Task.TheVariants.{One, Two, Arguments, Parameters, Case, Branches}
 use Rattle.terms.specs.declared.tasks.Opened.{Opened}
+use Rattle.terms.specs.declared.tasks.NoTerm.{NoTerm}
 use Rattle.reading.specs.Reading.{Item, item, start, starts, allowed, asked}
 
 -- what is wanted, where the variables have the types s
@@ -78,9 +79,9 @@ pub record Crowded (sig : Sig) (s : List ℕ) (x : Task) : Type 0 where
   pub many : 64 < length wanted.scope
 
 -- What a byte does at an item: it is refused, or it asks for the items of a task, if for any.
-abbrev pub Steps : Sig → List ℕ → Item → ℕ → ℕ → Option (Option Task) → Type 0
-Steps sig s i cut b None = allowed sig i b ≡ false
-Steps sig s i cut b (Some r) = (allowed sig i b ≡ true) × (asked sig i b ≡ expand_rest sig s r) × FineRest sig cut r
+abbrev pub Steps : Sig → List ℕ → Item → ℕ → ℕ → Result (Option Task) NoTerm → Type 0
+Steps sig s i cut b (Err e) = allowed sig i b ≡ false
+Steps sig s i cut b (Ok r) = (allowed sig i b ≡ true) × (asked sig i b ≡ expand_rest sig s r) × FineRest sig cut r
 
 -- a task on top of the others, if there is one
 abbrev pub put : Option Task → List Task → List Task

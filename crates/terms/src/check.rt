@@ -1,12 +1,12 @@
 // The check of a term, a byte at a time.
-ghost use Rattle.std.specs.Prelude.{◌≡◌, ◌+◌, ◌^◌, ◌∷◌, ◌<◌, ◌≤◌, length, MatchOption};
+ghost use Rattle.std.specs.Prelude.{◌≡◌, ◌+◌, ◌^◌, ◌∷◌, ◌<◌, ◌≤◌, length, MatchResult};
 ghost use Rattle.syntax.specs.Tables.{declared_in};
 ghost use Rattle.reading.specs.Reading.{reading, verdict};
 ghost use Rattle.reading.specs.Verdicts.{Says};
 ghost use Rattle.terms.specs.Tasks.{put, stack_of, Piled, NoneLeft, Stops, Advances};
 
 use crate::context::Context;
-use crate::tasks::{Opened, Stack, Task, Wanted};
+use crate::tasks::{NoTerm, Opened, Stack, Task, Wanted};
 use std::marker::Model;
 use syntax::faults::{Fault, Reason};
 use syntax::tables::Signature;
@@ -27,24 +27,24 @@ impl<'a> Model for Checker<'a> {
     ghost view = { λ c. declared_in c.context.sig };
 }
 
-// A byte comes where a task is next and others are left: the task that is next then, if any; none if the byte is refused.
+// A byte comes where a task is next and others are left: the task that is next then, if any.
 fn advance<const N: usize>(
     context: &mut Context,
     tasks: &mut Stack<N>,
     task: Task,
     b: u8,
-) -> Option<Option<Task>>
+) -> Result<Option<Task>, NoTerm>
     requires room { length tasks.old < N }
     requires piled { Piled (declared_in context.old.sig) (task ∷ tasks.old) 64 }
     ensures sig { context.new.sig ≡ context.old.sig }
-    ensures is { MatchOption result (Stops (declared_in context.old.sig) (stack_of (declared_in context.old.sig) context.old.scope (task ∷ tasks.old)) b) (λ next. Advances (declared_in context.old.sig) context.old.scope context.new.scope (task ∷ tasks.old) (put next tasks.new) b × NoneLeft next tasks.new) }
+    ensures is { MatchResult result (λ next. Advances (declared_in context.old.sig) context.old.scope context.new.scope (task ∷ tasks.old) (put next tasks.new) b × NoneLeft next tasks.new) (λ _. Stops (declared_in context.old.sig) (stack_of (declared_in context.old.sig) context.old.scope (task ∷ tasks.old)) b) }
 {
     let Opened { first, rest } = context.open(task)?;
     let then = context.read(first, b)?;
     tasks.put(rest);
     match then {
-        Some(task) => Some(Some(task)),
-        None => Some(tasks.pop()),
+        Some(task) => Ok(Some(task)),
+        None => Ok(tasks.pop()),
     }
 }
 
@@ -82,7 +82,7 @@ impl<'a> Checker<'a> {
         for (at, b) in bytes.iter().enumerate() {
             let refused = Reason::BadTerm.at(base + at);
             let task = next.ok_or(refused)?;
-            next = advance(context, tasks, task, *b).ok_or(refused)?;
+            next = advance(context, tasks, task, *b).or(Err(refused))?;
         }
         match next {
             None => Ok(()),

@@ -1,5 +1,5 @@
 // What a byte of a term means: the declarations that it may name, and the variables in scope.
-ghost use Rattle.std.specs.Prelude.{◌≡◌, ℕ, ◌+◌, ◌<◌, ◌≤◌, List, length, take, MatchOption, nat_lt, slice_index, Some};
+ghost use Rattle.std.specs.Prelude.{◌≡◌, ℕ, ◌+◌, ◌<◌, ◌≤◌, List, length, take, MatchResult, nat_lt, slice_index, Some};
 ghost use Rattle.std.specs.Bool.{then_some};
 ghost use Rattle.syntax.specs.Typing.{cases_of, arguments, params_of, stands};
 ghost use Rattle.syntax.specs.Tables.{declared_in};
@@ -7,7 +7,7 @@ ghost use Rattle.reading.specs.declared.parts.Part.TheVariants.{WhichConstructor
 ghost use Rattle.reading.specs.Reading.{item};
 ghost use Rattle.terms.specs.Tasks.{cut_of, item_of, whole, Left, Binds, Opens, Crowded, Steps};
 
-use crate::tasks::{Opened, Task, Wanted};
+use crate::tasks::{NoTerm, Opened, Task, Wanted};
 use reading::parts::{Part, Tag};
 use syntax::tables::Signature;
 
@@ -44,18 +44,18 @@ impl<'a> Context<'a> {
     }
 
     // A branch begins: its constructor's arguments are the next variables. The number of variables, if at most 64.
-    fn bind(&mut self, cut: u8, types: &[u8]) -> Option<u8>
+    fn bind(&mut self, cut: u8, types: &[u8]) -> Result<u8, NoTerm>
         requires { cut ≤ 64 }
         ensures sig { self.new.sig ≡ self.old.sig }
-        ensures is { MatchOption result (64 < cut + length types.now) (λ k. Binds self.old.scope self.new.scope cut types.now k) }
+        ensures is { MatchResult result (λ k. Binds self.old.scope self.new.scope cut types.now k) (λ _. 64 < cut + length types.now) }
     {
         let start = usize::from(cut);
         if types.len() > 64 - start {
-            return None;
+            return Err(NoTerm);
         }
         let end = start + types.len();
         self.scope[start..end].copy_from_slice(types);
-        Some(end as u8)
+        Ok(end as u8)
     }
 
     // The first term of each kind of task, and the rest of the task.
@@ -106,12 +106,12 @@ impl<'a> Context<'a> {
         }
     }
 
-    // None if the branch would see over 64 variables.
-    fn open_branch(&mut self, of: u8, next: u8, ty: u8, cut: u8) -> Option<Opened>
+    // No term if the branch would see over 64 variables.
+    fn open_branch(&mut self, of: u8, next: u8, ty: u8, cut: u8) -> Result<Opened, NoTerm>
         requires left { next < length (cases_of (declared_in self.old.sig) of) }
         requires few { cut ≤ 64 }
         ensures sig { self.new.sig ≡ self.old.sig }
-        ensures is { MatchOption result (Crowded (declared_in self.old.sig) self.old.scope (Task.Branches of next ty cut)) (λ o. Opens (declared_in self.old.sig) self.old.scope self.new.scope (Task.Branches of next ty cut) o) }
+        ensures is { MatchResult result (λ o. Opens (declared_in self.old.sig) self.old.scope self.new.scope (Task.Branches of next ty cut) o) (λ _. Crowded (declared_in self.old.sig) self.old.scope (Task.Branches of next ty cut)) }
     {
         let count = self.sig.case_count(of);
         let inner = self.bind(cut, self.sig.arguments(of, next))?;
@@ -121,34 +121,34 @@ impl<'a> Context<'a> {
             ty,
             cut,
         };
-        Some(Opened {
+        Ok(Opened {
             first: Wanted::whole(ty, inner),
             rest: (next + 1 < count).then_some(rest),
         })
     }
 
-    // The first term of a task, and the rest of the task; none if it is a branch that would see over 64 variables.
+    // The first term of a task, and the rest of the task; no term if it is a branch that would see over 64 variables.
     #[inline(always)]
-    pub fn open(&mut self, task: Task) -> Option<Opened>
+    pub fn open(&mut self, task: Task) -> Result<Opened, NoTerm>
         requires left { Left (declared_in self.old.sig) task }
         requires few { cut_of task ≤ 64 }
         ensures sig { self.new.sig ≡ self.old.sig }
-        ensures is { MatchOption result (Crowded (declared_in self.old.sig) self.old.scope task) (λ o. Opens (declared_in self.old.sig) self.old.scope self.new.scope task o) }
+        ensures is { MatchResult result (λ o. Opens (declared_in self.old.sig) self.old.scope self.new.scope task o) (λ _. Crowded (declared_in self.old.sig) self.old.scope task) }
     {
         match task {
-            Task::One(first) => Some(Opened { first, rest: None }),
+            Task::One(first) => Ok(Opened { first, rest: None }),
             Task::Two { ty, cut } => {
                 let first = Wanted::whole(ty, cut);
-                Some(Opened {
+                Ok(Opened {
                     first,
                     rest: Some(Task::One(first)),
                 })
             }
             Task::Arguments { of, con, next, cut } => {
-                Some(self.open_arguments(of, con, next, cut))
+                Ok(self.open_arguments(of, con, next, cut))
             }
-            Task::Parameters { of, next, cut } => Some(self.open_parameters(of, next, cut)),
-            Task::Case { of, ty, cut } => Some(self.open_case(of, ty, cut)),
+            Task::Parameters { of, next, cut } => Ok(self.open_parameters(of, next, cut)),
+            Task::Case { of, ty, cut } => Ok(self.open_case(of, ty, cut)),
             Task::Branches { of, next, ty, cut } => self.open_branch(of, next, ty, cut),
         }
     }
@@ -162,15 +162,15 @@ impl<'a> Context<'a> {
     }
 
     // The number of a constructor of the type ty.
-    fn read_constructor(&self, ty: u8, cut: u8, c: u8) -> Option<Option<Task>>
+    fn read_constructor(&self, ty: u8, cut: u8, c: u8) -> Result<Option<Task>, NoTerm>
         ensures { Steps (declared_in self.now.sig) self.now.scope (item WhichConstructor (take cut self.now.scope) ty) cut c result }
     {
         if c >= self.sig.case_count(ty) {
-            None
+            Err(NoTerm)
         } else if self.sig.arguments(ty, c).is_empty() {
-            Some(None)
+            Ok(None)
         } else {
-            Some(Some(Task::Arguments {
+            Ok(Some(Task::Arguments {
                 of: ty,
                 con: c,
                 next: 0,
@@ -180,15 +180,15 @@ impl<'a> Context<'a> {
     }
 
     // The number of a function whose result has the type ty.
-    fn read_function(&self, ty: u8, cut: u8, f: u8) -> Option<Option<Task>>
+    fn read_function(&self, ty: u8, cut: u8, f: u8) -> Result<Option<Task>, NoTerm>
         ensures { Steps (declared_in self.now.sig) self.now.scope (item WhichFunction (take cut self.now.scope) ty) cut f result }
     {
         if !self.sig.gives(f, ty) {
-            None
+            Err(NoTerm)
         } else if self.sig.params(f).is_empty() {
-            Some(None)
+            Ok(None)
         } else {
-            Some(Some(Task::Parameters {
+            Ok(Some(Task::Parameters {
                 of: f,
                 next: 0,
                 cut,
@@ -197,27 +197,27 @@ impl<'a> Context<'a> {
     }
 
     // The first byte of a term.
-    fn begin(&self, wanted: Wanted, b: u8) -> Option<Option<Task>>
+    fn begin(&self, wanted: Wanted, b: u8) -> Result<Option<Task>, NoTerm>
         requires { wanted.cut ≤ 64 }
         ensures { Steps (declared_in self.now.sig) self.now.scope (item Part.Start (take wanted.cut self.now.scope) wanted.ty) wanted.cut b result }
     {
         let Wanted { ty, cut, .. } = wanted;
         match Tag::from(b) {
-            Tag::Variable => Some(wanted.then(Part::WhichVariable)),
-            Tag::Unknown => Some(wanted.then(Part::WhichUnknown)),
-            Tag::Constructor => Some(wanted.then(Part::OwnType)),
-            Tag::Call => Some(wanted.then(Part::WhichFunction)),
-            Tag::Case => Some(wanted.then(Part::SubjectType)),
-            Tag::And if ty == 0 => Some(Some(Task::Two { ty, cut })),
-            Tag::Not if ty == 0 => Some(wanted.then(Part::Start)),
-            Tag::Equal if ty == 0 => Some(wanted.then(Part::SidesType)),
-            _ => None,
+            Tag::Variable => Ok(wanted.then(Part::WhichVariable)),
+            Tag::Unknown => Ok(wanted.then(Part::WhichUnknown)),
+            Tag::Constructor => Ok(wanted.then(Part::OwnType)),
+            Tag::Call => Ok(wanted.then(Part::WhichFunction)),
+            Tag::Case => Ok(wanted.then(Part::SubjectType)),
+            Tag::And if ty == 0 => Ok(Some(Task::Two { ty, cut })),
+            Tag::Not if ty == 0 => Ok(wanted.then(Part::Start)),
+            Tag::Equal if ty == 0 => Ok(wanted.then(Part::SidesType)),
+            _ => Err(NoTerm),
         }
     }
 
-    // A byte where a term is wanted: what has to come after it, if anything; none if the byte is refused.
+    // A byte where a term is wanted: what has to come after it, if anything.
     #[inline(always)]
-    pub fn read(&self, wanted: Wanted, b: u8) -> Option<Option<Task>>
+    pub fn read(&self, wanted: Wanted, b: u8) -> Result<Option<Task>, NoTerm>
         requires { wanted.cut ≤ 64 }
         ensures { Steps (declared_in self.now.sig) self.now.scope (item_of self.now.scope wanted) wanted.cut b result }
     {
@@ -225,19 +225,14 @@ impl<'a> Context<'a> {
         // Kept as it is: which part is read is data on the stack of tasks, where no closure can lie without a heap.
         match part {
             Part::Start => self.begin(wanted, b),
-            Part::WhichVariable => self.in_scope(cut, b, ty).then_some(None),
-            Part::WhichUnknown => self.sig.has_unknown(b, ty).then_some(None),
-            Part::OwnType => (b == ty).then_some(wanted.then(Part::WhichConstructor)),
+            Part::WhichVariable if self.in_scope(cut, b, ty) => Ok(None),
+            Part::WhichUnknown if self.sig.has_unknown(b, ty) => Ok(None),
+            Part::OwnType if b == ty => Ok(wanted.then(Part::WhichConstructor)),
             Part::WhichConstructor => self.read_constructor(ty, cut, b),
             Part::WhichFunction => self.read_function(ty, cut, b),
-            Part::SubjectType => {
-                let then = Some(Task::Case { of: b, ty, cut });
-                self.sig.declares(b).then_some(then)
-            }
-            Part::SidesType => {
-                let then = Some(Task::Two { ty: b, cut });
-                self.sig.declares(b).then_some(then)
-            }
+            Part::SubjectType if self.sig.declares(b) => Ok(Some(Task::Case { of: b, ty, cut })),
+            Part::SidesType if self.sig.declares(b) => Ok(Some(Task::Two { ty: b, cut })),
+            _ => Err(NoTerm),
         }
     }
 }

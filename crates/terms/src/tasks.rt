@@ -32,6 +32,10 @@ pub struct Opened {
     pub rest: Option<Task>,
 }
 
+// The bytes are no term of the type that is wanted.
+#[derive(Clone, Copy, Debug, PartialEq, Eq)]
+pub struct NoTerm;
+
 impl Wanted {
     // A whole term.
     pub fn whole(ty: u8, cut: u8) -> Wanted

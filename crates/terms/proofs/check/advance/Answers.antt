@@ -1,4 +1,4 @@
-use Rattle.std.proofs.Common.{◌≡◌, ◌∷◌, Some, sym, ap, ◌∙◌, subst}
+use Rattle.std.proofs.Common.{◌≡◌, ◌∷◌, Ok, sym, ap, ◌∙◌, subst}
 use Rattle.syntax.specs.Tables.{declared_in}
 use Rattle.terms.specs.Tasks.{item_of, Steps, Advances, put}
 use Rattle.terms.proofs.Piles.{advances}
@@ -12,8 +12,8 @@ returns-in-Some-clause-is g c =
     let ts = c.args.tasks.now in
     let o = c.in_ok-first.field-0 in
     let r = c.in_ok-then.then in
-    let e : Steps sig s' (item_of s' o.first) o.first.cut c.args.b (Some r) =
-    subst (λ d. Steps d s' (item_of s' o.first) o.first.cut c.args.b (Some r)) (ap declared_in c.open.ensures.sig) c.in_ok-then.ensures in
+    let e : Steps sig s' (item_of s' o.first) o.first.cut c.args.b (Ok r) =
+    subst (λ d. Steps d s' (item_of s' o.first) o.first.cut c.args.b (Ok r)) (ap declared_in c.open.ensures.sig) c.in_ok-then.ensures in
     let left : put r (put o.rest ts) ≡ c.in-Some.task ∷ c.put.new.self = ap (λ z. put z (put o.rest ts)) c.in-Some.is ∙ ap (λ z. c.in-Some.task ∷ z) (sym c.put.ensures) in
     (subst (λ ys. Advances sig s s' (c.args.task ∷ ts) ys c.args.b) left (advances sig s s' c.args.task ts o r c.args.b c.requires.piled c.in_ok-first.ensures.is e), tt)
 
@@ -25,7 +25,7 @@ returns-in-None-clause-is g c =
     let ts = c.args.tasks.now in
     let o = c.in_ok-first.field-0 in
     let r = c.in_ok-then.then in
-    let e : Steps sig s' (item_of s' o.first) o.first.cut c.args.b (Some r) =
-    subst (λ d. Steps d s' (item_of s' o.first) o.first.cut c.args.b (Some r)) (ap declared_in c.open.ensures.sig) c.in_ok-then.ensures in
+    let e : Steps sig s' (item_of s' o.first) o.first.cut c.args.b (Ok r) =
+    subst (λ d. Steps d s' (item_of s' o.first) o.first.cut c.args.b (Ok r)) (ap declared_in c.open.ensures.sig) c.in_ok-then.ensures in
     let left : put r (put o.rest ts) ≡ put c.pop.result c.pop.new.self = ap (λ z. put z (put o.rest ts)) c.in-None.is ∙ sym c.put.ensures ∙ c.pop.ensures.taken in
     (subst (λ ys. Advances sig s s' (c.args.task ∷ ts) ys c.args.b) left (advances sig s s' c.args.task ts o r c.args.b c.requires.piled c.in_ok-first.ensures.is e), c.pop.ensures.last)

@@ -31,8 +31,8 @@ loop-at-preserved g c =
     let same = some_by_ok l.next c.at-refused.result x (sym c.ok_or.ensures.value ∙ c.in_ok-task.was) in
     let Moved : Sig → Type 0 = λ d. Advances d l.context.scope c.advance.new.context.scope (x ∷ l.tasks) (put next c.advance.new.tasks) b in
     let moved : Moved (declared_in l.context.sig) × NoneLeft next c.advance.new.tasks =
-    by_ok _ (λ n. Advances (declared_in l.context.sig) l.context.scope c.advance.new.context.scope (x ∷ l.tasks) (put n c.advance.new.tasks) b × NoneLeft n c.advance.new.tasks)
-    c.advance.result c.at-refused.result next (sym c.ok_or-in-loop-at.ensures.value ∙ c.in_ok-next.was) c.advance.ensures.is in
+    by_ok (λ n. Advances (declared_in l.context.sig) l.context.scope c.advance.new.context.scope (x ∷ l.tasks) (put n c.advance.new.tasks) b × NoneLeft n c.advance.new.tasks) _
+    c.advance.result c.at-refused.result next (sym c.or.ensures ∙ c.in_ok-next.was) c.advance.ensures.is in
     let e : Moved sig = subst Moved l.invariant.1 moved.0 in
     let long = ap (λ o. length (put o l.tasks)) same in
     let few = e.few in (

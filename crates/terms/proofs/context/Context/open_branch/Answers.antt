@@ -1,5 +1,6 @@
 use Rattle.std.proofs.Common.{◌≡◌, ℕ, ◌+◌, List, [], ◌++◌, map, length, take, drop, ap, arith, length-append, rules}
 use Rattle.std.proofs.lemmas.List.{drop_more, length-take-le}
+use Rattle.std.proofs.lemmas.Result.{err_from_is_err_and}
 use Rattle.syntax.specs.Typing.{want, cases_of, arguments}
 use Rattle.syntax.specs.Tables.{declared_in}
 use Rattle.reading.specs.Reading.{starts}
@@ -19,7 +20,8 @@ returns-in_err-inner-clause-is c =
     let many = c.in_err-inner.ensures.is in
     let sum = length-append (take cut s) tys in
     let at = length-take-le cut s (omega arith) in
-    rw c.from_residual.ensures (record {
+    let exit = err_from_is_err_and c.from_residual.result c.from_residual.ensures.1 in
+    rw exit.1 (record {
       wanted = f tys;
       others = starts (map f (drop (next + 1) cs));
       is = ap (λ zs. starts (map f zs)) (drop_more cs next [] c.requires.left);
