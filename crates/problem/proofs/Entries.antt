@@ -38,28 +38,3 @@ inside xs i c h =
 -- the types of the arguments of a constructor that is there
 pub type_there : (ds : List Datatype) (tys : List (List (List ℕ))) (t c : ℕ) → map cases_in ds ≡ tys → c < length (get_or tys t []) → t < length ds
 type_there ds tys t c e lt = let long = sym (length-map ds cases_in) ∙ ap length e in let low = inside tys t c lt in omega arith
-
-pub arguments_there : (ds : List Datatype) (tys : List (List (List ℕ))) (t c : ℕ) → map cases_in ds ≡ tys → c < length (get_or tys t [])
-    → listed (get_or (get_or ds t no_datatype).constructors c no_list) ≡ get_or (get_or tys t []) c []
-arguments_there ds tys t c e lt =
-    let same : get_or tys t [] ≡ cases_in (get_or ds t no_datatype) = ap (λ x. get_or x t []) (sym e) ∙ cases_at ds t (type_there ds tys t c e lt) in
-    let low : c < length (cases_in (get_or ds t no_datatype)) = subst (λ x. c < length x) same lt in
-    sym (constructor_at (get_or ds t no_datatype) c low) ∙ ap (λ x. get_or x c []) (sym same)
-
--- no type, no value
-pub no_type : (sig : Sig) (t : ℕ) → length sig.types ≤ t → least_of sig t ≡ 9
-no_type sig t le =
-    (least_is_least sig t).high (λ s. empty s.value s.of)
-  where
-    empty : (v : Value) → OfType sig t v → ⊥
-    empty v (of_type lt os) = let none = ap length (get_or_past sig.types t [] le) in omega arith
-
--- the place after a term, by a table
-pub hop_within : (next ends : List ℕ) (q x : ℕ) → next ≡ ends → q < length next → x ≡ get_or next q x → x ≡ hop ends q
-hop_within next ends q x e lt h =
-    get_or_read next q x lt h 0
-    ∙ sym (ap (λ b. cond b (get_or next q 0) q) (lt-ltb q (length next) lt))
-    ∙ ap (λ ns. hop ns q) e
-
-pub hop_past : (next ends : List ℕ) (q : ℕ) → next ≡ ends → length next ≤ q → q ≡ hop ends q
-hop_past next ends q e le = sym (ap (λ b. cond b (get_or next q 0) q) (le-ltb q (length next) le)) ∙ ap (λ ns. hop ns q) e

@@ -42,11 +42,6 @@ pub record Listed (m n i : ℕ) (all : List ℕ) (start : ℕ) (rest : List ℕ)
   pub front : all ≡ concat encode_list xs ++ rest
   pub leads : lists_of m n all start ≡ led xs (lists_of m (n - i) rest p)
 
-pub listed_none : (m n : ℕ) (all : List ℕ) (p : ℕ) → Listed m n 0 all p all p
-listed_none m n all p =
-    let same : n ≡ n - 0 = omega arith in
-    record { xs = []; long = refl; few = tt; front = refl; leads = led_none (lists_of m n all p) ∙ ap (λ k. led [] (lists_of m k all p)) same }
-
 module _ {m n i : ℕ} {all : List ℕ} {start : ℕ} {rest : List ℕ} {p : ℕ} (l : Listed m n i all start rest p) (less : i < n) where
   one_left : n - i ≡ suc (n - (i + 1))
   one_left = omega arith
