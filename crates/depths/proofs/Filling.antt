@@ -1,6 +1,9 @@
 -- The greatest depth and the least need by folds; the table of needs grows by one row after another. Assumes nothing.
-use Rattle.std.proofs.Common.{◌≡◌, ℕ, zero, suc, ◌+◌, ◌<◌, ◌≤◌, min, max, List, [], ◌∷◌, map, length, get_or, set, sym, ap, ◌∙◌, ⊎_elim, arith}
+use Rattle.std.proofs.Common.{◌≡◌, ℕ, zero, suc, ◌+◌, ◌<◌, ◌≤◌, min, max, List, [], ◌∷◌, map, length, get_or, set, sym, ap, ◌∙◌, subst, ⊎_elim, arith}
+use denote.Param.Members.{Mut}
 use Rattle.std.specs.List.{fold}
+use Rattle.std.specs.Fn.{Called}
+use Rattle.std.specs.Array.{IsFromFnResultFrom}
 use Rattle.std.proofs.lemmas.List.{length-map, get_or-map}
 use Rattle.syntax.specs.Least.{greatest}
 use Rattle.std.proofs.lemmas.List.{get_or-set_same, get_or-set_other}
@@ -70,3 +73,17 @@ row_more need rows t row low before new u l c few = ⊎_elim here there (cases_e
 
     there : (u ≡ t → ⊥) → get_or (get_or (set rows t row) u []) c 0 ≡ need u c
     there ne = ap (λ (r : List ℕ). get_or r c 0) (get_or-set_other rows t u row [] ne) ∙ before u (omega arith) c few
+
+-- what the calls of a closure at each index made
+module _ {F : Type 0} (g : Mut F (ℕ × Unit {0}) ℕ) (f : F) (need : ℕ → ℕ) (gives : (i y : ℕ) (q : F) → i < 16 → Called g f (i, tt) y q → (y ≡ need i) × (q ≡ f)) where
+  called_from : (n i : ℕ) (ys : List ℕ) → i + n ≤ 16 → IsFromFnResultFrom g f ys i n → (k : ℕ) → i ≤ k → k < i + n → get_or ys k 0 ≡ need k
+  called_from zero i ys fits made k le lt = absurd (omega (arith, le, lt))
+  called_from (suc n) i ys fits made k le lt =
+      let now = gives i made.1 made.0 (omega (arith, fits)) made.3 in
+      ⊎_elim
+      (λ e. ap (λ j. get_or ys j 0) e ∙ made.2.1 0 ∙ now.0 ∙ ap need (sym e))
+      (λ ne. called_from n (i + 1) ys (omega (arith, fits)) (subst (λ p. IsFromFnResultFrom g p ys (i + 1) n) now.1 made.4) k (omega (arith, le, ne)) (omega (arith, lt)))
+      (cases_eq k i)
+
+  pub called_each : (ys : List ℕ) → IsFromFnResultFrom g f ys 0 16 → (k : ℕ) → k < 16 → get_or ys k 0 ≡ need k
+  called_each ys made k few = called_from 16 0 ys (omega arith) made k (omega arith) few

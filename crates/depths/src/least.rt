@@ -11,6 +11,7 @@ fn round(sig: Signature, least: &mut [u8])
     requires { length least.old ≡ length sig.types.now }
     ensures { (k : ℕ) → Known (declared_in sig.entry) least.old k 0 → Known (declared_in sig.entry) least.new (k + 1) 0 }
 {
+    // Kept as it is: each entry is worked out from the whole table, which cannot be read while its entries are lent one by one.
     for (t, datatype) in sig.types.iter().enumerate() {
         least[t] = easiest(least, datatype);
     }

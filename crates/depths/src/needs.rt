@@ -5,6 +5,7 @@ ghost use Rattle.syntax.specs.Least.{greatest, need_of};
 ghost use Rattle.depths.specs.Needs.{depth_at, need_by, need_in, Easiest, Filled};
 ghost use Rattle.depths.specs.Least.{Leasts};
 
+use std::array;
 use syntax::tables::{Datatype, Signature, TypeList};
 
 // Stands in a table for a type of which no value is known.
@@ -58,16 +59,21 @@ pub fn need(sig: Signature, least: &[u8], t: u8, c: u8) -> u8
     need_over(least, sig.arguments(t, c))
 }
 
-// The row of a type in the table of needs; past its last constructor stands the need of a constant.
+// What the constructor at an index needs; past the last one, what a constant needs.
+fn need_at(least: &[u8], cases: &[TypeList], c: usize) -> u8
+    ensures { result ≡ need_in least.now (map listed cases.now) c }
+{
+    match cases.get(c) {
+        Some(case) => need_over(least, case.types()),
+        None => need_over(least, &[]),
+    }
+}
+
+// The row of a type in the table of needs.
 fn needs_of(least: &[u8], cases: &[TypeList]) -> [u8; 16]
-    requires { length cases.now ≤ 16 }
     ensures { (c : ℕ) → c < 16 → slice_index result c ≡ need_in least.now (map listed cases.now) c }
 {
-    let mut row = [1; 16];
-    for (c, case) in cases.iter().enumerate() {
-        row[c] = need_over(least, case.types());
-    }
-    row
+    array::from_fn(|c| need_at(least, cases, c))
 }
 
 // Writes what each constructor needs into the row of its type.
@@ -75,6 +81,7 @@ pub fn fill_needs(sig: Signature, least: &[u8], needs: &mut [[u8; 16]])
     ensures by { Filled (need_by (declared_in sig.entry) least.now) needs.new }
     ensures is { Leasts (declared_in sig.entry) least.now → Filled (need_of (declared_in sig.entry)) needs.new }
 {
+    // Kept as it is: a row is promised for each number, also for one that names no type, which a zip with the types would pass over.
     for (t, row) in needs.iter_mut().enumerate() {
         *row = needs_of(least, sig.cases(t));
     }
