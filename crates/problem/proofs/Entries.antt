@@ -1,23 +1,9 @@
 -- Reading the tables through what they stand for. Assumes nothing.
-use Rattle.std.proofs.Common.{◌≡◌, ℕ, zero, suc, ◌<◌, ◌≤◌, cond, List, [], ◌∷◌, map, length, get_or, sym, refl, ap, ◌∙◌, subst, ⊎_elim, arith, le-ltb, lt-ltb}
-use Rattle.std.proofs.lemmas.List.{length-map, get_or-map, get_or_past, get_or_read}
+use Rattle.std.proofs.Common.{◌≡◌, ℕ, zero, suc, ◌<◌, List, [], ◌∷◌, map, length, get_or, sym, refl, ap, ◌∙◌, ⊎_elim, arith}
+use Rattle.std.proofs.lemmas.List.{length-map, get_or_past}
 use Rattle.std.proofs.lemmas.Bool.{cases_lt}
 use Rattle.syntax.specs.declared.tables.Datatype.{Datatype}
-use Rattle.syntax.specs.Tables.{listed, cases_in}
-use Rattle.syntax.specs.Typing.{Sig}
-use Rattle.syntax.specs.Values.{OfType, of_type, Value}
-use Rattle.syntax.specs.Least.{least_of}
-use Rattle.syntax.proofs.Entries.{no_list, no_datatype, constructor_at}
-use Rattle.depths.proofs.Entries.{cases_at}
-use Rattle.depths.proofs.Leasts.{least_is_least}
-use Rattle.ends.specs.Ends.{hop}
-
--- an entry, and a place past the end, of a table whose entries stand for ys
-pub read_map : {X Y : Type 0} (g : X → Y) (xs : List X) (ys : List Y) (i : ℕ) (x : X) (d : Y) → map g xs ≡ ys → i < length xs → x ≡ get_or xs i x → g x ≡ get_or ys i d
-read_map g xs ys i x d e lt h = ap g h ∙ sym (get_or-map g xs i x d lt) ∙ ap (λ zs. get_or zs i d) e
-
-pub past_map : {X Y : Type 0} (g : X → Y) (xs : List X) (ys : List Y) (i : ℕ) (d : Y) → map g xs ≡ ys → length xs ≤ i → d ≡ get_or ys i d
-past_map g xs ys i d e le = sym (get_or_past ys i d (let l = sym (ap length e) ∙ length-map xs g in omega arith))
+use Rattle.syntax.specs.Tables.{cases_in}
 
 pub same_length : {X Y Z : Type 0} (f : X → Z) (g : Y → Z) (xs : List X) (ys : List Y) → map f xs ≡ map g ys → length xs ≡ length ys
 same_length f g xs ys e = sym (length-map xs f) ∙ ap length e ∙ length-map ys g

@@ -93,10 +93,8 @@ impl Problem {
     pub fn result(&self, f: u8) -> u8
         ensures { result ≡ result_of (sig self.now) f }
     {
-        match self.tables.functions.get(usize::from(f)) {
-            Some(function) => function.result,
-            None => 0,
-        }
+        let function = self.tables.functions.get(usize::from(f));
+        function.map_or(0, |function| function.result)
     }
 
     // The place of a function's body, the end of the bytes where there is no such function.
@@ -104,10 +102,8 @@ impl Problem {
         ensures is { result ≡ slice_index_or (body_places (meant self.now)) f (length (held self.now)) }
         ensures stands { BodyStands self.now f result }
     {
-        match self.tables.functions.get(usize::from(f)) {
-            Some(function) => function.body.start,
-            None => self.bytes.len(),
-        }
+        let function = self.tables.functions.get(usize::from(f));
+        function.map_or(self.bytes.len(), |function| function.body.start)
     }
 
     // The types of the unknowns.
@@ -129,10 +125,8 @@ impl Problem {
         ensures is { result ≡ slice_index_or (goal_places (meant self.now)) g (length (held self.now)) }
         ensures stands { GoalStands self.now g result }
     {
-        match self.tables.goals.get(g) {
-            Some(goal) => goal.start,
-            None => self.bytes.len(),
-        }
+        let goal = self.tables.goals.get(g);
+        goal.map_or(self.bytes.len(), |goal| goal.start)
     }
 
     // The place after the term that stands at a place.
@@ -140,10 +134,8 @@ impl Problem {
         ensures is { result ≡ hop (ends self.now) place }
         ensures after { ComesAfter self.now place result }
     {
-        match self.next.get(place) {
-            Some(next) => usize::from(*next),
-            None => place,
-        }
+        let next = self.next.get(place);
+        next.map_or(place, |next| usize::from(*next))
     }
 
     // The byte at a place, 0 past the end.

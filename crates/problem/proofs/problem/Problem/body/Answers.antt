@@ -6,16 +6,9 @@ use Rattle.problem.proofs.Lawfulness.{is_encoded}
 use Rattle.problem.proofs.Standing.{body_stands}
 use Rattle.problem.proofs.problem.Problem.body.Goals as goal
 
-pub returns-in-Some-clause-stands : goal.returns-in-Some-clause-stands
-returns-in-Some-clause-stands c d lt =
+pub returns-clause-stands : goal.returns-clause-stands
+returns-clause-stands c d lt =
     let p = c.args.self.now in
-    let r = c.in-Some.function.now.body.start in
-    let is : r ≡ get_or (body_places (meant p)) c.args.f (length (held p)) = grind (arith, common_steps) in
-    body_stands (meant p) (held p) (is_encoded (held p) p.holds.accepted p.holds.written) c.args.f r d lt is
-
-pub returns-in-None-clause-stands : goal.returns-in-None-clause-stands
-returns-in-None-clause-stands c d lt =
-    let p = c.args.self.now in
-    let r = c.len.result in
+    let r = c.map_or.result in
     let is : r ≡ get_or (body_places (meant p)) c.args.f (length (held p)) = grind (arith, common_steps) in
     body_stands (meant p) (held p) (is_encoded (held p) p.holds.accepted p.holds.written) c.args.f r d lt is
