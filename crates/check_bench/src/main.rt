@@ -7,22 +7,23 @@ use std::time::Instant;
 use std::{env, io};
 use verdict::check::check;
 
-const SIZES: [usize; 3] = [1024, 4096, 16384];
+const SIZES: [u16; 3] = [1024, 4096, 16384];
 
 // A problem of just so many bytes. Its one goal is an `and` of equations between naturals, to the right, with a tail of `not`s.
-fn problem_of(heap: Global, size: usize) -> Result<Vec<u8>, AllocError> {
+fn problem_of(heap: Global, size: u16) -> Result<Vec<u8>, AllocError> {
     let mut bytes = Vec::new(heap);
     bytes.extend_from_slice(&[0x44, 0x54, 2, 0, 1, 1, 0x55, 0x4B, 1])?;
     let term = size.saturating_sub(15);
-    bytes.extend_from_slice(&[0x47, 0x4C, (term / 256 % 256) as u8, (term % 256) as u8])?;
+    bytes.extend_from_slice(&[0x47, 0x4C])?;
+    bytes.extend_from_slice(&term.to_be_bytes())?;
     for _ in 0..term / 11 {
-        if bytes.len() + 11 + 3 + 2 > size {
+        if bytes.len() + 11 + 3 + 2 > usize::from(size) {
             break;
         }
         bytes.extend_from_slice(&[5, 7, 1, 1, 0, 2, 1, 1, 2, 1, 0])?;
     }
     for _ in 0..11 {
-        if bytes.len() + 3 + 2 < size {
+        if bytes.len() + 3 + 2 < usize::from(size) {
             bytes.push(6)?;
         }
     }
@@ -35,7 +36,7 @@ fn repeat(bytes: &[u8], times: u32) -> usize {
     (0..times).filter(|_| check(bytes).is_ok()).count()
 }
 
-fn measure(rt: &HostRuntime, size: usize, times: u32) -> io::Result<()> {
+fn measure(rt: &HostRuntime, size: u16, times: u32) -> io::Result<()> {
     let bytes = problem_of(rt.alloc(), size)?;
     let start = Instant::now(rt)?;
     let accepted = repeat(bytes.as_slice(), times);

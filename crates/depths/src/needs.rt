@@ -6,6 +6,7 @@ ghost use Rattle.depths.specs.Needs.{depth_at, need_by, need_in, Easiest, Filled
 ghost use Rattle.depths.specs.Least.{Leasts};
 
 use std::array;
+use syntax::limits::MOST_CONSTRUCTORS;
 use syntax::tables::{Datatype, Signature, TypeList};
 
 // Stands in a table for a type of which no value is known.
@@ -70,14 +71,14 @@ fn need_at(least: &[u8], cases: &[TypeList], c: usize) -> u8
 }
 
 // The row of a type in the table of needs.
-fn needs_of(least: &[u8], cases: &[TypeList]) -> [u8; 16]
+fn needs_of(least: &[u8], cases: &[TypeList]) -> [u8; MOST_CONSTRUCTORS]
     ensures { (c : ℕ) → c < 16 → slice_index result c ≡ need_in least.now (map listed cases.now) c }
 {
     array::from_fn(|c| need_at(least, cases, c))
 }
 
 // Writes what each constructor needs into the row of its type.
-pub fn fill_needs(sig: Signature, least: &[u8], needs: &mut [[u8; 16]])
+pub fn fill_needs(sig: Signature, least: &[u8], needs: &mut [[u8; MOST_CONSTRUCTORS]])
     ensures by { Filled (need_by (declared_in sig.entry) least.now) needs.new }
     ensures is { Leasts (declared_in sig.entry) least.now → Filled (need_of (declared_in sig.entry)) needs.new }
 {

@@ -13,13 +13,10 @@ use std::alloc::{AllocError, Global};
 fn digits_of(heap: Global, text: &[u8]) -> Result<Vec<u8>, AllocError>
     ensures { IfOk result (λ v. v.items ≡ filter is_hex_digit text.now) }
 {
-    let mut digits = Vec::new(heap);
-    for b in text {
-        if b.is_ascii_hexdigit() {
-            digits.push(*b)?;
-        }
-    }
-    Ok(digits)
+    text.iter()
+        .copied()
+        .filter(|b| b.is_ascii_hexdigit())
+        .collect(heap)
 }
 
 // The bytes that pairs of digits write. What stands between digits is passed over, and so is a last digit without a second.

@@ -9,16 +9,17 @@ use crate::record_tables::Tables;
 use depths::needs::fill_needs;
 use ends::ends::fill_ends;
 use std::alloc::{AllocError, Global};
+use syntax::limits::MOST_CONSTRUCTORS;
 use syntax::tables::Signature;
 use terms::tasks::Stack;
 use verdict::examine::examine;
-use verdict::workspace::Workspace;
+use verdict::workspace::{MOST_TASKS, Workspace};
 
 // What each constructor needs.
-pub fn needs_table(heap: Global, sig: Signature, least: &[u8]) -> Result<Vec<[u8; 16]>, AllocError>
+pub fn needs_table(heap: Global, sig: Signature, least: &[u8]) -> Result<Vec<[u8; MOST_CONSTRUCTORS]>, AllocError>
     ensures { IfOk result (λ v. NeedsHeld (declared_in sig.entry) least.now v.items) }
 {
-    let mut needs = vec![in heap; [0u8; 16]; sig.types.len()]?;
+    let mut needs = vec![in heap; [0u8; MOST_CONSTRUCTORS]; sig.types.len()]?;
     fill_needs(sig, least, needs.as_mut_slice());
     Ok(needs)
 }
@@ -38,7 +39,7 @@ pub fn examined(heap: Global, bytes: &[u8]) -> Result<Option<Tables>, AllocError
     ensures { IfOk result (λ o. MatchOption o (is_ok (verdict bytes.now) ≡ false) (λ t. Holds bytes.now t)) }
 {
     let mut work = Workspace::EMPTY;
-    let mut tasks: Stack<16385> = Stack::new();
+    let mut tasks: Stack<MOST_TASKS> = Stack::new();
     let Ok(counts) = examine(bytes, &mut work, &mut tasks) else {
         return Ok(None);
     };

@@ -7,6 +7,7 @@ use problem::take::take;
 use problem::view::View;
 use std::io;
 use std::io::{BufRead, BufReader};
+use syntax::limits::{MOST_FUNCTIONS, MOST_TYPES};
 
 fn tell_type(rt: &HostRuntime, p: &Problem, t: u8) -> io::Result<()> {
     let least = p.least(t);
@@ -62,10 +63,10 @@ fn tell(rt: &HostRuntime, line: &str) -> anyhow::Result<()> {
     let size = p.bytes().len();
     let unknowns = p.unknowns();
     println!(rt; "{name}: {size} bytes, unknowns {unknowns:?}")?;
-    for t in 0..p.types().min(32) as u8 {
+    for t in 0..p.types().min(MOST_TYPES) as u8 {
         tell_type(rt, &p, t)?;
     }
-    for f in 0..p.functions().min(64) as u8 {
+    for f in 0..p.functions().min(MOST_FUNCTIONS) as u8 {
         let params = p.params(f);
         let result = p.result(f);
         println!(rt; "  function {f}: {params:?} to {result}")?;

@@ -6,6 +6,7 @@ ghost use Rattle.kept.specs.Layout.{sig_from};
 ghost use Rattle.kept.specs.Filled.{Holds};
 
 use kept::record_tables::Tables;
+use syntax::limits::MOST_CONSTRUCTORS;
 
 // The check accepts the bytes; each table holds what the problem that they are says.
 // Kept as it is: what is worked out for each type and each byte stands beside them, since types and bytes are lent as slices.
@@ -13,7 +14,7 @@ use kept::record_tables::Tables;
 pub struct Problem {
     pub(crate) bytes: Vec<u8>,
     pub(crate) tables: Tables,
-    pub(crate) needs: Vec<[u8; 16]>,
+    pub(crate) needs: Vec<[u8; MOST_CONSTRUCTORS]>,
     pub(crate) next: Vec<u16>,
     ghost holds: { Holds bytes.items tables },
     ghost needs_long: { length needs.items ≡ length tables.types.items },

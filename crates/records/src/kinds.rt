@@ -8,9 +8,7 @@ ghost use Rattle.records.specs.Handed.{cases_held, function_held, TypeHeld, Func
 use crate::next::{Mark, Record};
 use crate::reader::Reader;
 use syntax::faults::Fault;
-
-// The most constructors that a type may have.
-const MOST_CONSTRUCTORS: u8 = 16;
+use syntax::limits::MOST_CONSTRUCTORS;
 
 // A type: the place of its mark, how many constructors it has, and their lists of types, each led by its length.
 // Kept as it is: a count beside the bytes, since the lists in them differ in length.
@@ -74,7 +72,7 @@ impl<'a> Record<'a> for TypeRecord<'a> {
 
     fn read(reader: &mut Reader<'a>, mark: usize) -> Result<TypeRecord<'a>, Fault> {
         let mut ahead = *reader;
-        let count = ahead.count(mark, 1, MOST_CONSTRUCTORS)?;
+        let count = ahead.count(mark, 1, MOST_CONSTRUCTORS as u8)?;
         let constructors = ahead.lists(mark, count)?;
         *reader = ahead;
         Ok(TypeRecord {

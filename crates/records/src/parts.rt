@@ -8,11 +8,9 @@ ghost use Rattle.records.specs.Readers.{ahead_of, Takes};
 use crate::next::Mark;
 use crate::reader::Reader;
 use syntax::faults::{Fault, Reason};
+use syntax::limits::MOST_ARGUMENTS;
 
 // Kept as it is: the mark goes with each call, since a reader lasts for many records and a part stands in one.
-
-// The most types that a list may have.
-const MOST_TYPES: u8 = 6;
 
 impl<'a> Reader<'a> {
     // Are the next two bytes this mark?
@@ -74,7 +72,7 @@ impl<'a> Reader<'a> {
         ensures { Takes (list_of mark (ahead_of self.old) self.old.at) (λ p. p.now) self.old self.new result }
     {
         let mut ahead = *self;
-        let count = ahead.count(mark, 0, MOST_TYPES)?;
+        let count = ahead.count(mark, 0, MOST_ARGUMENTS as u8)?;
         let types = ahead.take(mark, usize::from(count))?;
         *self = ahead;
         Ok(types)

@@ -5,6 +5,7 @@ use problem::problem::Problem;
 use problem::take::take;
 use std::io::Read;
 use std::{env, fs, io};
+use syntax::limits::MOST_TYPES;
 use verdict::check::check;
 
 fn input(rt: &HostRuntime) -> io::Result<Vec<u8>> {
@@ -36,8 +37,8 @@ fn tell(rt: &HostRuntime, problem: &Problem) -> io::Result<()> {
     let unknowns = problem.unknowns().len();
     let goals = problem.goals();
     println!(rt; "types {types}, functions {functions}, unknowns {unknowns}, goals {goals}")?;
-    for t in 0..types.min(255) {
-        tell_type(rt, problem, t as u8)?;
+    for t in 0..types.min(MOST_TYPES) as u8 {
+        tell_type(rt, problem, t)?;
     }
     Ok(())
 }

@@ -4,13 +4,15 @@ ghost use Rattle.std.specs.Prelude.{◌≡◌, ◌≤◌, ◌<◌, ◌&&◌, len
 ghost use Rattle.syntax.specs.Typing.{cases_of, arguments, params_of, result_of, stands};
 ghost use Rattle.syntax.specs.Tables.{listed, cases_in, declared_in};
 
+use crate::limits::{MOST_ARGUMENTS, MOST_CONSTRUCTORS};
+
 // At most six types: the arguments of a constructor, or the parameters of a function.
 // Kept as it is: an array with a count beside it, here and in `Datatype`: a check of bytes has no heap, and its tables are
 // filled with one blank value, which has to be `Copy`.
 #[derive(Clone, Copy)]
 pub struct TypeList {
     pub count: u8,
-    pub types: [u8; 6],
+    pub types: [u8; MOST_ARGUMENTS],
 }
 
 // A type by its constructors, each by the types of its arguments; `at` is the place of its record (0 for Bool, which has none).
@@ -19,7 +21,7 @@ pub struct TypeList {
 pub struct Datatype {
     pub at: usize,
     pub count: u8,
-    pub constructors: [TypeList; 16],
+    pub constructors: [TypeList; MOST_CONSTRUCTORS],
 }
 
 // A part of a problem's bytes.
@@ -56,7 +58,7 @@ fn front<T>(items: &[T], count: u8) -> &[T]
 impl TypeList {
     pub const EMPTY: TypeList = TypeList {
         count: 0,
-        types: [0; 6],
+        types: [0; MOST_ARGUMENTS],
     };
 
     // The list of these types.
@@ -64,7 +66,7 @@ impl TypeList {
         requires { length types.now ≤ 6 }
         ensures { listed result ≡ types.now }
     {
-        let mut list = [0; 6];
+        let mut list = [0; MOST_ARGUMENTS];
         list[..types.len()].copy_from_slice(types);
         TypeList {
             count: types.len() as u8,
@@ -85,7 +87,7 @@ impl Datatype {
     pub const EMPTY: Datatype = Datatype {
         at: 0,
         count: 0,
-        constructors: [TypeList::EMPTY; 16],
+        constructors: [TypeList::EMPTY; MOST_CONSTRUCTORS],
     };
 
     // The constructors of the type, each by the types of its arguments.

@@ -8,27 +8,25 @@ ghost use Rattle.tables.specs.Exact.{ReadingExact};
 use crate::sections::{BOOL, callable, datatype, fill, goal, unknown};
 use records::reader::Reader;
 use syntax::faults::{Fault, Reason};
+use syntax::limits::{MOST_BYTES, MOST_FUNCTIONS, MOST_GOALS, MOST_TYPES, MOST_UNKNOWNS};
 use syntax::tables::{Callable, Datatype, Span};
-
-// The most bytes that a problem may have.
-const LONGEST: usize = 16384;
 
 // Room for all that a problem may declare; how much of each table is filled is in `Counts`.
 // Kept as it is: arrays with counts beside them, since a check of bytes has no heap.
 #[derive(Clone, Copy)]
 pub struct WorkTables {
-    pub types: [Datatype; 32],
-    pub functions: [Callable; 64],
-    pub unknowns: [u8; 16],
-    pub goals: [Span; 32],
+    pub types: [Datatype; MOST_TYPES],
+    pub functions: [Callable; MOST_FUNCTIONS],
+    pub unknowns: [u8; MOST_UNKNOWNS],
+    pub goals: [Span; MOST_GOALS],
 }
 
 impl WorkTables {
     pub const EMPTY: WorkTables = WorkTables {
-        types: [Datatype::EMPTY; 32],
-        functions: [Callable::EMPTY; 64],
-        unknowns: [0; 16],
-        goals: [Span::EMPTY; 32],
+        types: [Datatype::EMPTY; MOST_TYPES],
+        functions: [Callable::EMPTY; MOST_FUNCTIONS],
+        unknowns: [0; MOST_UNKNOWNS],
+        goals: [Span::EMPTY; MOST_GOALS],
     };
 }
 
@@ -47,8 +45,8 @@ pub fn read_records(bytes: &[u8], tables: &mut WorkTables) -> Result<Counts, Fau
     ensures reads { MatchResult result (λ n. ((raw : Raw) × Tabled bytes.now raw tables.new.types tables.new.functions tables.new.unknowns tables.new.goals n)) (λ e. records bytes.now ≡ Err e) }
     ensures exact { ReadingExact }
 {
-    if bytes.len() > LONGEST {
-        return Err(Reason::TooLong.at(LONGEST));
+    if bytes.len() > MOST_BYTES {
+        return Err(Reason::TooLong.at(MOST_BYTES));
     }
     let mut reader = Reader::new(bytes);
     tables.types[0] = BOOL;

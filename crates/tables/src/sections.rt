@@ -12,13 +12,14 @@ use records::kinds::{FunctionRecord, GoalRecord, TypeRecord, UnknownRecord};
 use records::next::Record;
 use records::reader::Reader;
 use syntax::faults::Fault;
+use syntax::limits::MOST_CONSTRUCTORS;
 use syntax::tables::{Callable, Datatype, Span, TypeList};
 
 // False and true take no arguments, and Bool has no record.
 pub(crate) const BOOL: Datatype = Datatype {
     at: 0,
     count: 2,
-    constructors: [TypeList::EMPTY; 16],
+    constructors: [TypeList::EMPTY; MOST_CONSTRUCTORS],
 };
 
 pub(crate) fn datatype(item: TypeRecord) -> Datatype
@@ -27,7 +28,7 @@ pub(crate) fn datatype(item: TypeRecord) -> Datatype
     ensures cases { cases_in result ≡ cases_held item.entry }
     ensures marked { result.at ≡ item.entry.at }
 {
-    let mut constructors = [TypeList::EMPTY; 16];
+    let mut constructors = [TypeList::EMPTY; MOST_CONSTRUCTORS];
     let mut rest = item.constructors;
     for list in &mut constructors[..usize::from(item.count)] {
         let (types, others) = rest[1..].split_at(usize::from(rest[0]));

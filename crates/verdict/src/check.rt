@@ -4,7 +4,7 @@ ghost use Rattle.verdict.specs.Exact.{Says, VerdictIsExact};
 ghost use Rattle.verdict.specs.Verdict.{verdict, checked};
 
 use crate::examine::examine;
-use crate::workspace::Workspace;
+use crate::workspace::{MOST_TASKS, Workspace};
 use syntax::faults::Fault;
 use terms::tasks::Stack;
 
@@ -33,6 +33,6 @@ pub fn check(bytes: &[u8]) -> Result<(), Fault>
     } else if bytes.len() < 4128 {
         check_with::<4128>(bytes)
     } else {
-        check_with::<16385>(bytes)
+        check_with::<MOST_TASKS>(bytes)
     }
 }
