@@ -1,5 +1,5 @@
 // What a byte of a term means: the declarations that it may name, and the variables in scope.
-ghost use Rattle.std.specs.Prelude.{◌≡◌, ℕ, ◌+◌, ◌<◌, ◌≤◌, List, length, take, MatchResult, nat_lt, slice_index, Some};
+ghost use Rattle.std.specs.Prelude.{◌≡◌, ◌+◌, ◌<◌, ◌≤◌, length, take, MatchResult, nat_lt, slice_index, Some};
 ghost use Rattle.std.specs.Bool.{then_some};
 ghost use Rattle.syntax.specs.Typing.{cases_of, arguments, params_of, stands};
 ghost use Rattle.syntax.specs.Tables.{declared_in};

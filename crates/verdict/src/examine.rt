@@ -1,5 +1,5 @@
 // Examines bytes layer by layer: records, then types, then terms. Each layer hands its fault on by `?`.
-ghost use Rattle.std.specs.Prelude.{◌≡◌, ◌+◌, ◌≤◌, length};
+ghost use Rattle.std.specs.Prelude.{◌+◌, ◌≤◌, length};
 ghost use Rattle.verdict.specs.Examined.{Examined};
 
 use crate::checked_terms::check_terms;
