@@ -16,7 +16,11 @@ use verdict::examine::examine;
 use verdict::workspace::{MOST_TASKS, Workspace};
 
 // What each constructor needs.
-pub fn needs_table(heap: Global, sig: Signature, least: &[u8]) -> Result<Vec<[u8; MOST_CONSTRUCTORS]>, AllocError>
+pub fn needs_table(
+    heap: Global,
+    sig: Signature,
+    least: &[u8],
+) -> Result<Vec<[u8; MOST_CONSTRUCTORS]>, AllocError>
     ensures { IfOk result (λ v. NeedsHeld (declared_in sig.entry) least.now v.items) }
 {
     let mut needs = vec![in heap; [0u8; MOST_CONSTRUCTORS]; sig.types.len()]?;
