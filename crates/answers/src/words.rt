@@ -1,5 +1,5 @@
 // The words for outcomes.
-ghost use Rattle.std.specs.Prelude.{◌≡◌};
+ghost use Rattle.std.specs.Prelude.{◌≡◌, Some};
 ghost use Rattle.answers.specs.Words.{word};
 
 use crate::answer::Outcome;
@@ -24,6 +24,8 @@ impl Outcome {
 }
 
 impl fmt::Display for Outcome {
+    ghost output = { λ o. Some (word o) };
+
     fn fmt<W: fmt::Write>(&self, f: &mut fmt::Formatter<W>) -> fmt::Result {
         f.write_str(self.word())
     }

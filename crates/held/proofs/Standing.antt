@@ -1,6 +1,5 @@
 -- How the places stand for environments and arguments, and go on doing so as they grow.
 use Rattle.std.proofs.Common.{◌≡◌, ℕ, zero, suc, ◌+◌, ◌<◌, ◌≤◌, ◌≢◌, List, [], ◌∷◌, length, get_or, set, Some, None, Option, sym, refl, ap, ◌∙◌, subst, arith, get_or-set_other, get_or-set_same}
-use Rattle.std.proofs.lemmas.List.{get_or_past}
 use Rattle.syntax.specs.Terms.{Term}
 use Rattle.judging.specs.Held.{Held, hold, free, Helds, h[], ◌h∷◌, missing, bound, frees, ◌h++◌}
 use Rattle.held.specs.declared.places.Held.{Held as Code}
@@ -8,9 +7,6 @@ use Rattle.held.specs.declared.places.Held.TheVariants.{Missing, Term as At, Unk
 use Rattle.held.specs.declared.places.Place.{Place}
 use Rattle.held.specs.Links.{above}
 use Rattle.held.specs.Standing.{no_place, place_at, down, hlength, Stands, Binds, Env, Row, Same}
-
-pub no_link : (m : List Place) (i : ℕ) → length m ≤ i → no_place ≡ place_at m (Some i)
-no_link m i h = sym (get_or_past m i no_place h)
 
 place_same : (m n : List Place) (top k : ℕ) → k < top → Same m n top → place_at n (Some k) ≡ place_at m (Some k)
 place_same m n top k h same = same k h

@@ -22,11 +22,9 @@ impl Explanation {
         ensures { result ≡ contains self.now.words unknown }
     {
         let word = (unknown / 64) as usize;
-        if word < self.words.len() {
-            (self.words[word] >> (unknown % 64)) % 2 == 1
-        } else {
-            false
-        }
+        self.words
+            .get(word)
+            .is_some_and(|bits| (*bits >> (unknown % 64)) % 2 == 1)
     }
 
     // Puts the unknown into the set, which has no room for numbers from 512 on: those change nothing.
@@ -44,6 +42,7 @@ impl Explanation {
         ensures { (u : ℕ) → contains self.new.words u ≡ (contains self.old.words u || contains other.now.words u) }
     {
         let mut words = self.words;
+        // Kept as it is: by index; with `array::from_fn` the proof didn't close, on that each call finds the captured words as they were.
         for (index, word) in other.words.iter().enumerate() {
             words[index] |= *word;
         }

@@ -39,11 +39,9 @@ impl<'a> Memory<'a> {
     pub fn argument(&self, place: usize) -> Held
         ensures { result ≡ (slice_index_or self.now.places.now place no_place).held }
     {
-        if place < self.places.len() {
-            self.places[place].held
-        } else {
-            Held::Missing
-        }
+        self.places
+            .get(place)
+            .map_or(Held::Missing, |found| found.held)
     }
 
     // What is held after so many links down.

@@ -1,10 +1,10 @@
 -- One step of the definition at a time, and what the code's answer to it gives to the next.
-use Rattle.std.proofs.Common.{◌≡◌, ℕ, zero, suc, ◌+◌, ◌-◌, ◌<◌, ◌≤◌, min, List, [], ◌++◌, length, get_or, Some, None, Option, sym, refl, ap, ◌∙◌, subst, sub-one, arith}
+use Rattle.std.proofs.Common.{◌≡◌, ℕ, zero, suc, ◌+◌, ◌-◌, ◌<◌, ◌≤◌, min, List, [], ◌++◌, length, get_or, ◌≢◌, Some, None, Option, sym, refl, ap, ◌∙◌, subst, sub-one, arith}
 use mathlib.Core.Option.{Option as Maybe, none, some}
 use Rattle.syntax.specs.Terms.{Term, Terms, t[], ◌t∷◌}
 use Rattle.syntax.specs.Problems.{Problem}
 use Rattle.judging.specs.Held.{Held, hold, free, Helds, h[], ◌h∷◌, missing, holds}
-use Rattle.judging.specs.Judging.{Unknowns, Head, is, Verdict, same, wait, Asks, Judging, go_on, give, join, join_verdict, and_right, and_true, after_left, after_right, after_pair, pairs, headed, compared, judges}
+use Rattle.judging.specs.Judging.{Unknowns, Head, is, Verdict, same, wait, Asks, Judging, go_on, give, join, join_verdict, and_right, and_true, and_waits, after_left, after_right, after_pair, pairs, headed, compared, judges}
 use Rattle.held.specs.Explanations.{Adds}
 use Rattle.held.specs.Reading.{Text}
 use Rattle.held.specs.Standing.{no_place, hlength, Stands, Row, Env}
@@ -16,6 +16,8 @@ use Rattle.judge.specs.declared.answers.Head.{Head as CodeHead}
 use Rattle.judge.specs.declared.answers.Head.TheVariants.{Waits, Is}
 use Rattle.judge.specs.declared.answers.Verdict.{Verdict as CodeVerdict}
 use Rattle.judge.specs.declared.answers.Verdict.TheVariants.{Wait, Same as SameV, Differ}
+use Rattle.judge.specs.declared.verdicts.Judgement.TheVariants.{False, True, Waiting}
+use Rattle.judge.specs.Outcomes.{outcome}
 use Rattle.judge.specs.Texts.{tlength}
 use Rattle.judge.specs.Means.{HeadAs, Agrees, VerdictAs, Concurs}
 use Rattle.judge.proofs.Sets.{adds_append}
@@ -125,15 +127,29 @@ pub both_true : (E : List ℕ) (c s : ℕ) (xs : Helds ℕ) (F : List ℕ) → 0
 both_true E zero s xs F z = absurd (omega arith)
 both_true E (suc c) s xs F z = refl
 
--- an `and` whose left side is false, and one whose left side is true
-pub and_left_false : (right : Judging (Head ℕ)) (c s : ℕ) (xs : Helds ℕ) (E : List ℕ) → c ≡ 0 → and_right right (is c xs E) s ≡ some (is 0 h[] E, s)
-and_left_false right zero s xs E z = refl
-and_left_false right (suc c) s xs E z = absurd (omega arith)
+-- a head that is not false, and one that is
+pub not_false : {o : Maybe (Head ℕ × ℕ)} {c s : ℕ} {xs : Helds ℕ} {E : List ℕ} → o ≡ some (is c xs E, s) → outcome o ≢ False → 0 < c
+not_false {c = zero} e other = absurd (other (ap outcome e))
+not_false {c = suc c} e other = omega arith
 
+pub false_head : {x : Text} {l : Left} {a b : List ℕ} {o : Maybe (Head ℕ × ℕ)} (r : CodeHead) → Agrees x l a b (Some r) o → outcome o ≡ False
+    → (xs : Helds ℕ) × (E : List ℕ) × (o ≡ some (is 0 xs E, l.steps)) × Adds a b E
+false_head (Waits u) h f = let z : Waiting u ≡ False = sym (ap outcome h.means) ∙ f in absurd (cc)
+false_head (Is i zero n) h f = (h.means.0, h.means.1, h.means.2, h.means.5)
+false_head (Is i (suc c) n) h f = let z : True ≡ False = sym (ap outcome h.means.2) ∙ f in absurd (cc)
+
+-- an `and` whose left side is not false
 pub and_left_true : (right : Judging (Head ℕ)) (c s : ℕ) (xs : Helds ℕ) (E : List ℕ) → 0 < c
     → go_on (λ h. give (and_true E h)) (right s) ≡ and_right right (is c xs E) s
 and_left_true right zero s xs E z = absurd (omega arith)
 and_left_true right (suc c) s xs E z = refl
+
+pub lost_and : {x : Text} {l : Left} {a b : List ℕ} {o : Maybe (Head ℕ × ℕ)} (right : Judging (Head ℕ)) (r : CodeHead) → Agrees x l a b (Some r) o
+    → outcome o ≢ False → right l.steps ≡ none → go_on (and_right right) o ≡ none
+lost_and right (Waits u) h other q = ap (go_on (and_right right)) h.means ∙ ap (go_on (λ r. give (and_waits u r))) q
+lost_and {l = l} right (Is i c n) h other q =
+    let v = h.means in
+    ap (go_on (and_right right)) v.2 ∙ sym (and_left_true right c l.steps v.0 v.1 (not_false v.2 other)) ∙ ap (go_on (λ r. give (and_true v.1 r))) q
 
 module _ (R : ℕ → Term → Type 0) (A : Asks ℕ) (m : List Place) (top : ℕ) where
   pub pairs_none : (i j count s : ℕ) (xs ys : Helds ℕ) → (0 < count → i < length m → j < length m → ⊥) → top ≤ length m

@@ -4,7 +4,7 @@ use lib.ListN.{length-map}
 use Rattle.syntax.specs.Terms.{Term, Terms, t[], ◌t∷◌}
 use Rattle.syntax.specs.Typing.{Sig, Want, want, each_of, branches_of, arguments, params_of, cases_of}
 use Rattle.syntax.specs.Problems.{Function}
-use Rattle.ends.specs.Ends.{StandsAt, hop, ends_of}
+use Rattle.ends.specs.Ends.{StandsAt, hop, hops, ends_of}
 use Rattle.problem.specs.declared.problem.Problem.{Problem}
 use Rattle.problem.specs.declared.view.View.{View}
 use Rattle.problem.specs.declared.view.View.TheVariants.{Variable, Unknown, Constructor, Call, Case, And, Not, Equal, Nothing}
@@ -73,30 +73,13 @@ by_view p place t w Nothing s = s
 pub shown : (p : Problem) (place : ℕ) (v : View) → AlwaysShows (sig p) (held p) (ends p) place v → (t : Term) → Reads (text_of p) place t → Shows (text_of p) v t
 shown p place v h t r = by_view p place t (want r.scope r.ty) v (h (want r.scope r.ty) t (stands r))
 
--- the terms that are left from the place `at` on, of which the one after `left` others is looked for
-pub record Skipping (x : Text) (at left count : ℕ) (ts : Terms) : Type 0 where
-  pub rest : Terms
-  pub reads : ReadsAll x at rest
-  pub more : left < tlength rest
-  pub same : branch rest left ≡ branch ts count
-
-pub skipping_none : (x : Text) (place count left : ℕ) (ts : Terms) → left ≡ count → count < tlength ts → ReadsAll x place ts → Skipping x place left count ts
-skipping_none x place count left ts is lt r = record { rest = ts; reads = r; more = omega arith; same = ap (branch ts) is }
-
-pub skipping_more : (x : Text) (at next left after count : ℕ) (ts : Terms) → left ≡ suc after
-    → ((t : Term) (us : Terms) → ReadsAll x at (t t∷ us) → ReadsAll x next us) → Skipping x at left count ts → Skipping x next after count ts
-skipping_more x at next left after count ts is go s = past s.rest s.reads s.more s.same
-  where
-    past : (us : Terms) → ReadsAll x at us → left < tlength us → branch us left ≡ branch ts count → Skipping x next after count ts
-    past t[] r more same = absurd (omega arith)
-    past (t t∷ us) r more same = record { rest = us; reads = go t us r; more = omega arith; same = ap (branch (t t∷ us)) (sym is) ∙ same }
-
-pub skipping_all : (x : Text) (at left count : ℕ) (ts : Terms) → left ≡ 0 → Skipping x at left count ts → Reads x at (branch ts count)
-skipping_all x at left count ts z s = subst (λ (t : Term). Reads x at t) s.same (first_at s.rest s.reads s.more)
-  where
-    first_at : (us : Terms) → ReadsAll x at us → left < tlength us → Reads x at (branch us left)
-    first_at t[] r more = absurd (omega arith)
-    first_at (t t∷ us) r more = subst (λ (k : ℕ). Reads x at (branch (t t∷ us) k)) (sym z) (first_of r)
+-- the branch for a constructor stands as many hops after the first
+pub branch_reads : (p : Problem) (place k : ℕ) (ts : Terms) → k < tlength ts → ReadsAll (text_of p) place ts
+    → Reads (text_of p) (hops (ends p) k place) (branch ts k)
+branch_reads p place k t[] lt r = absurd (omega arith)
+branch_reads p place zero (t t∷ ts) lt r = first_of r
+branch_reads p place (suc k) (t t∷ ts) lt r =
+    branch_reads p (hop (ends p) place) k ts (omega arith) (rest_of p place (hop (ends p) place) refl t ts r)
 
 pub no_branch : (ts : Terms) (c : ℕ) → tlength ts ≤ c → branch ts c ≡ missing
 no_branch t[] c h = refl

@@ -1,5 +1,5 @@
 -- What a judgement says of a goal, with its byte and its explanation. Assumes nothing.
-use Rattle.std.specs.Prelude.{ℕ, zero, suc, List}
+use Rattle.std.specs.Prelude.{ℕ, zero, suc, List, codes}
 use Rattle.std.proofs.Math.Option.{Option, none, some}
 use Rattle.judging.specs.Judging.{Head, is, waits}
 use Rattle.held.specs.Explanations.{Adds}
@@ -20,6 +20,13 @@ byte_of False = 0
 byte_of True = 1
 byte_of Out = 2
 byte_of (Waiting u) = 3
+
+-- the word that is printed of a judgement
+abbrev pub word : Judgement → List ℕ
+word False = codes "false"
+word True = codes "true"
+word Out = codes "out"
+word (Waiting u) = codes "waiting"
 
 -- the explanation of a head was put into the set a, which is then b
 abbrev pub ExplainsHead : List ℕ → List ℕ → Head ℕ → Type 0

@@ -1,4 +1,12 @@
 // What the judge answers.
+ghost use Rattle.std.specs.Prelude.{◌≡◌, ℕ, List, Some, true, false, ◌≢◌};
+ghost use Rattle.std.proofs.Math.Option.{Option as Maybe};
+ghost use Rattle.judging.specs.Judging.{Head as HeadOf};
+ghost use Rattle.held.specs.Reading.{Text};
+ghost use Rattle.judge.specs.declared.left.Left.{Left as Rest};
+ghost use Rattle.judge.specs.declared.verdicts.Judgement.TheVariants.{False};
+ghost use Rattle.judge.specs.Means.{Agrees};
+ghost use Rattle.judge.specs.Outcomes.{outcome};
 
 // The head of a held term: the unknown that it waits on; or a constructor, whose arguments stand in the places from
 // `start` on. The judge answers none for want of steps.
@@ -27,6 +35,14 @@ impl Head {
         constructor: 1,
         count: 0,
     };
+
+    // Whether it is false: constructor 0 of Bool is, and any other counts as true.
+    pub fn is_false(self) -> bool
+        ensures yes { result ≡ true → (x : Text) (l : Rest) (e f : List ℕ) (o : Maybe (HeadOf ℕ × ℕ)) → Agrees x l e f (Some self) o → outcome o ≡ False }
+        ensures no { result ≡ false → (x : Text) (l : Rest) (e f : List ℕ) (o : Maybe (HeadOf ℕ × ℕ)) → Agrees x l e f (Some self) o → outcome o ≢ False }
+    {
+        matches!(self, Head::Is { constructor: 0, .. })
+    }
 }
 
 // What comparing two held terms comes to; likewise none for want of steps.

@@ -151,19 +151,15 @@ impl<D: Decides> Judge<'_, D> {
         let mut own = Explanation::nothing();
         let a = Held::Term { place: a, env };
         let b = Held::Term { place: b, env };
-        match self.head(left, &mut own, a)? {
-            Head::Is { constructor, .. } => {
-                if constructor == 0 {
-                    because.join(&own);
-                    return Some(Head::FALSE);
-                }
-                let right = self.head(left, because, b)?;
-                Some(and_true(right, &own, because))
-            }
-            Head::Waits(unknown) => {
-                let right = self.head(left, because, b)?;
-                Some(and_waits(unknown, right))
-            }
+        let first = self.head(left, &mut own, a)?;
+        if first.is_false() {
+            because.join(&own);
+            return Some(Head::FALSE);
+        }
+        let right = self.head(left, because, b)?;
+        match first {
+            Head::Is { .. } => Some(and_true(right, &own, because)),
+            Head::Waits(unknown) => Some(and_waits(unknown, right)),
         }
     }
 

@@ -1,8 +1,10 @@
 // The judgement of a goal.
 ghost use Rattle.std.specs.Prelude.{◌≡◌, ℕ, ◌*◌, ◌<◌, ◌≤◌, length};
 ghost use Rattle.judging.specs.Held.{goal as goal_of};
-ghost use Rattle.judging.specs.Judging.{judge};
+ghost use Rattle.std.proofs.Math.Option.{some};
+ghost use Rattle.judging.specs.Judging.{Head as HeadOf, judge};
 ghost use Rattle.judge.specs.Texts.{text_of};
+ghost use Rattle.judge.specs.Means.{Kept, HasRoom};
 ghost use Rattle.judge.specs.Outcomes.{outcome, byte_of, Explained};
 
 use crate::answers::Head;
@@ -31,6 +33,30 @@ impl Judgement {
 }
 
 impl<D: Decides> Judge<'_, D> {
+    // Judges a goal with the steps and the memory that are left. The explanation of a true or a false one is put into `because`.
+    pub fn judge_within(&self, left: &mut Left, because: &mut Explanation, goal: usize) -> Judgement
+        requires room { HasRoom 0 left.old }
+        requires known { goal < length (text_of self.now.problem.now).problem.goals }
+        ensures kept { Kept 0 left.old left.new }
+        ensures judged { result ≡ outcome (judge (text_of self.now.problem.now).problem (D.unknowns self.now.decider.now) (goal_of (text_of self.now.problem.now).problem goal) left.old.steps) }
+        ensures explained { Explained because.old.words because.new.words (judge (text_of self.now.problem.now).problem (D.unknowns self.now.decider.now) (goal_of (text_of self.now.problem.now).problem goal) left.old.steps) }
+        ensures steps { (r : HeadOf ℕ × ℕ) → judge (text_of self.now.problem.now).problem (D.unknowns self.now.decider.now) (goal_of (text_of self.now.problem.now).problem goal) left.old.steps ≡ some r → left.new.steps ≡ r.1 }
+    {
+        let place = self.problem.goal(goal);
+        let env = Link::NONE;
+        match self.head(left, because, Held::Term { place, env }) {
+            Some(Head::Waits(unknown)) => Judgement::Waiting(unknown),
+            Some(head) => {
+                if head.is_false() {
+                    Judgement::False
+                } else {
+                    Judgement::True
+                }
+            }
+            None => Judgement::Out,
+        }
+    }
+
     // Judges a goal with so many steps. The explanation of a true or a false one is put into `because`.
     pub fn judge_goal(
         &self,
@@ -45,24 +71,6 @@ impl<D: Decides> Judge<'_, D> {
         ensures explained { Explained because.old.words because.new.words (judge (text_of self.now.problem.now).problem (D.unknowns self.now.decider.now) (goal_of (text_of self.now.problem.now).problem goal) steps) }
     {
         let mut left = Left::new(Memory::new(places), steps);
-        let place = self.problem.goal(goal);
-        match self.head(
-            &mut left,
-            because,
-            Held::Term {
-                place,
-                env: Link::NONE,
-            },
-        ) {
-            Some(Head::Is { constructor, .. }) => {
-                if constructor == 0 {
-                    Judgement::False
-                } else {
-                    Judgement::True
-                }
-            }
-            Some(Head::Waits(unknown)) => Judgement::Waiting(unknown),
-            None => Judgement::Out,
-        }
+        self.judge_within(&mut left, because, goal)
     }
 }

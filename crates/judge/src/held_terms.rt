@@ -1,5 +1,5 @@
 // Terms of the problem, held in the memory.
-ghost use Rattle.std.specs.Prelude.{◌≡◌, ℕ, ◌+◌, ◌<◌, ◌≤◌, List, length, Some, None, Option};
+ghost use Rattle.std.specs.Prelude.{◌≡◌, ℕ, ◌+◌, ◌≤◌, List, length, Some, None, Option};
 ghost use Rattle.std.proofs.Math.Option.{some};
 ghost use Rattle.syntax.specs.Terms.{Term, Terms, ◌t∷◌};
 ghost use Rattle.syntax.specs.Typing.{constructors as count_of};
@@ -23,23 +23,12 @@ use held::memory::Memory;
 use held::places::Held;
 
 impl<D: Decides> Judge<'_, D> {
-    // The place of the term after so many others.
-    fn skip(&self, place: usize, count: u8) -> usize
-        ensures { (ts : Terms) → count < tlength ts → ReadsAll (text_of self.now.problem.now) place ts → Reads (text_of self.now.problem.now) result (branch ts count) }
-    {
-        let mut place = place;
-        for _ in 0..count {
-            place = self.problem.after(place);
-        }
-        place
-    }
-
     // The branch for a constructor, of a case on the type `ty` whose subject is at a place.
     pub fn hold_branch(&self, ty: u8, subject: usize, constructor: u8, env: Link) -> Held
         ensures { (m : List Spot) (top : ℕ) (u : Term) (us : Terms) (ρ : Helds ℕ) → count_of (sig_of (text_of self.now.problem.now).problem) ty ≡ tlength us → ReadsAll (text_of self.now.problem.now) subject (u t∷ us) → Env (Reads (text_of self.now.problem.now)) m top env ρ → Stands (Reads (text_of self.now.problem.now)) m top result (held (branch us constructor) ρ) }
     {
         if constructor < self.problem.constructors(ty) {
-            let place = self.skip(self.problem.after(subject), constructor);
+            let place = self.problem.past(subject, 1 + usize::from(constructor));
             Held::Term { place, env }
         } else {
             Held::Missing

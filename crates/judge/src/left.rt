@@ -2,7 +2,6 @@
 ghost use Rattle.std.specs.Prelude.{◌≡◌, ℕ};
 
 use held::memory::Memory;
-use held::places::Place;
 
 // The steps that are left, and the memory. Each step pays for six places.
 // Kept as it is: that the places suffice for the steps stands in the contracts of the judge and not in a ghost field,

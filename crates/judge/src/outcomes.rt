@@ -15,8 +15,8 @@ pub fn negate(a: Head) -> Head
     ensures agrees { (x : Text) (l : Rest) (e f : List ℕ) (o : Maybe (HeadOf ℕ × ℕ)) → Agrees x l e f (Some a) o → Agrees x l e f (Some result) (go_on (λ h. give (negation h)) o) }
 {
     match a {
-        Head::Is { constructor, .. } => {
-            if constructor == 0 {
+        Head::Is { .. } => {
+            if a.is_false() {
                 Head::TRUE
             } else {
                 Head::FALSE
@@ -32,8 +32,8 @@ pub fn and_true(a: Head, own: &Explanation, because: &mut Explanation) -> Head
     ensures agrees { (x : Text) (l : Rest) (e E : List ℕ) (o : Maybe (HeadOf ℕ × ℕ)) → Explains own.now.words E → Agrees x l e because.old.words (Some a) o → Agrees x l e because.new.words (Some result) (go_on (λ h. give (and_true E h)) o) }
 {
     match a {
-        Head::Is { constructor, .. } => {
-            if constructor == 0 {
+        Head::Is { .. } => {
+            if a.is_false() {
                 return Head::FALSE;
             }
             because.join(own);
@@ -50,8 +50,8 @@ pub fn and_waits(unknown: u16, a: Head) -> Head
     ensures agrees { (x : Text) (l : Rest) (e f : List ℕ) (o : Maybe (HeadOf ℕ × ℕ)) → Agrees x l e f (Some a) o → Agrees x l e f (Some result) (go_on (λ h. give (and_waits unknown h)) o) }
 {
     match a {
-        Head::Is { constructor, .. } => {
-            if constructor == 0 {
+        Head::Is { .. } => {
+            if a.is_false() {
                 return Head::FALSE;
             }
             Head::Waits(unknown)

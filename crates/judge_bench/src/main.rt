@@ -3,13 +3,12 @@
 #![tactic(auto)]
 
 use held::explanation::Explanation;
-use held::links::Link;
 use held::memory::Memory;
-use held::places::{Held, Place};
-use judge::answers::Head;
+use held::places::Place;
 use judge::decides::Decides;
 use judge::judge::Judge;
 use judge::left::Left;
+use judge::verdicts::Judgement;
 use model::deciding::read_model;
 use problem::take::take;
 use std::time::Instant;
@@ -17,26 +16,14 @@ use std::{env, fs, io};
 
 const STEPS: usize = 4096;
 
-// What the goal is judged to be, and the steps that were left.
-fn once<D: Decides>(judge: &Judge<'_, D>, places: &mut [Place]) -> (&'static str, usize) {
-    if places.len() < 6 * STEPS {
-        return ("no room", STEPS);
+// What the first goal is judged to be, and the steps that were left. There has to be room for all steps, and a goal.
+fn once<D: Decides>(judge: &Judge<'_, D>, places: &mut [Place]) -> (Judgement, usize) {
+    if places.len() < 6 * STEPS || judge.problem.goals() == 0 {
+        return (Judgement::Out, STEPS);
     }
     let mut left = Left::new(Memory::new(places), STEPS);
     let mut because = Explanation::nothing();
-    let place = judge.problem.goal(0);
-    let judged = match judge.head(
-        &mut left,
-        &mut because,
-        Held::Term {
-            place,
-            env: Link::NONE,
-        },
-    ) {
-        Some(Head::Is { constructor, .. }) => { if constructor == 0 { "false" } else { "true" } }
-        Some(Head::Waits(_)) => "waiting",
-        None => "out",
-    };
+    let judged = judge.judge_within(&mut left, &mut because, 0);
     (judged, left.steps)
 }
 

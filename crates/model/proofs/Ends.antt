@@ -56,7 +56,3 @@ module _ (one : ℕ → ℕ → Result ℕ Fault) (types : List ℕ) (next p : �
   pub ends_step : (q : ℕ) → next < length types → Ok q ≡ one (get_or types next 0) p → ends one (drop next types) p ≡ ends one (drop (next + 1) types) q
   ends_step q h is =
       sym (ap (λ (r : Result ℕ Fault). and_then r (ends one (drop (next + 1) types))) is ∙ ap (λ (ts : List ℕ). ends one ts p) (first h))
-
-pub within_later : (p q n : ℕ) (r : Result ℕ Fault) → p ≤ q → Within q n r → Within p n r
-within_later p q n (Ok x) le h = (omega arith, h.1)
-within_later p q n (Err e) le h = tt

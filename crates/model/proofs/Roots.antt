@@ -34,9 +34,6 @@ pub record Rooted (sig : Sig) (bs types roots : List ℕ) (k p : ℕ) : Type 0 w
   pub low : p ≤ length bs
   pub whole : places_from sig bs 0 types 0 ≡ after roots (places_from sig bs k (drop k types) p)
 
-pub rooted_none : (sig : Sig) (bs types : List ℕ) → Rooted sig bs types [] 0 0
-rooted_none sig bs types = record { long = refl; low = omega arith; whole = refl }
-
 module _ {sig : Sig} {bs types roots : List ℕ} {k p : ℕ} (so_far : Rooted sig bs types roots k p) where
   at_end : length types ≤ k → places_from sig bs k (drop k types) p ≡ places_from sig bs k [] p
   at_end h = ap (λ (ts : List ℕ). places_from sig bs k ts p) (drop_none k types h)

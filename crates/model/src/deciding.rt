@@ -79,9 +79,8 @@ impl<P: Declares> Decides for Model<'_, P> {
 
     // Kept as it is: 0 for what is no unknown, as the trait's meaning answers every number.
     fn root(&self, unknown: u8) -> u16 {
-        let roots = self.roots.as_slice();
-        let k = unknown as usize;
-        if k < roots.len() { roots[k] } else { 0 }
+        let root = self.roots.as_slice().get(usize::from(unknown));
+        root.copied().unwrap_or(0)
     }
 
     fn choice(&self, unknown: u16) -> Option<Choice> {

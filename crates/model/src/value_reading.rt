@@ -18,14 +18,13 @@ pub struct ValueReader<'a, P> {
 
 impl<P: Declares> ValueReader<'_, P> {
     // The byte at a place; a record that lacks it goes past the end, at its mark.
+    // Kept as it is: `byte` of crates/records moves its reader on, and this one looks at any place, as the definition of model bytes
+    // does; what the two could share is the one look-up and its fault.
     fn byte(&self, place: usize) -> Result<u8, Fault>
         ensures { result ≡ there self.now.bytes.now self.now.mark place (Ok (slice_index self.now.bytes.now place)) }
     {
-        if place < self.bytes.len() {
-            Ok(self.bytes[place])
-        } else {
-            Err(Reason::PastEnd.at(self.mark))
-        }
+        let byte = self.bytes.get(place).copied();
+        byte.ok_or(Reason::PastEnd.at(self.mark))
     }
 
     // The place of the record's value, if the record is that of the unknown with this number.
@@ -35,10 +34,7 @@ impl<P: Declares> ValueReader<'_, P> {
         ensures within { Within self.now.mark (length self.now.bytes.now) result }
     {
         let place = self.mark;
-        if place + 1 >= self.bytes.len()
-            || self.bytes[place] != 0x4D
-            || self.bytes[place + 1] != 0x44
-        {
+        if !self.bytes[place.min(self.bytes.len())..].starts_with(b"MD") {
             return Err(Reason::NoMark.at(place));
         }
         let k = self.byte(place + 2)?;

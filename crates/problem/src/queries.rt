@@ -3,7 +3,7 @@ ghost use Rattle.std.specs.Prelude.{◌≡◌, ◌+◌, ◌<◌, length, slice_i
 ghost use Rattle.syntax.specs.Typing.{constructors as constructors_of, arguments as arguments_of, params_of, result_of};
 ghost use Rattle.syntax.specs.Tables.{declared_in};
 ghost use Rattle.syntax.specs.Least.{least_of, need_of};
-ghost use Rattle.ends.specs.Ends.{hop};
+ghost use Rattle.ends.specs.Ends.{hop, hops};
 ghost use Rattle.verdict.specs.Exact.{Encodes};
 ghost use Rattle.kept.specs.Layout.{body_places, goal_places};
 ghost use Rattle.problem.specs.Meant.{held, meant, sig, ends, BodyStands, GoalStands, ComesAfter};
@@ -11,6 +11,7 @@ ghost use Rattle.problem.specs.Views.{view_by, view_at, AlwaysShows};
 
 use crate::problem::Problem;
 use crate::view::View;
+use ends::ends::past;
 use reading::parts::Tag;
 use syntax::tables::Signature;
 
@@ -136,6 +137,13 @@ impl Problem {
     {
         let next = self.next.get(place);
         next.map_or(place, |next| usize::from(*next))
+    }
+
+    // The place after so many terms that stand one after another, the first of them at a place.
+    pub fn past(&self, place: usize, count: usize) -> usize
+        ensures { result ≡ hops (ends self.now) count place }
+    {
+        past(self.next.as_slice(), place, count)
     }
 
     // The byte at a place, 0 past the end.

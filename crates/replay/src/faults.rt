@@ -1,7 +1,7 @@
 // Why a replay is refused.
-ghost use Rattle.std.specs.Prelude.{◌≡◌};
+ghost use Rattle.std.specs.Prelude.{◌≡◌, Some};
 ghost use Rattle.replay.specs.declared.faults.ReplayFault.TheVariants.{BadModel};
-ghost use Rattle.replay.specs.Numbers.{number_of};
+ghost use Rattle.replay.specs.Numbers.{number_of, refusal_text};
 
 use std::fmt;
 use syntax::faults::Fault;
@@ -39,14 +39,12 @@ impl ReplayFault {
 
 // The number, and after it the reader's own fault.
 impl fmt::Display for ReplayFault {
+    ghost output = { λ e. Some (refusal_text e) };
+
     fn fmt<W: fmt::Write>(&self, f: &mut fmt::Formatter<W>) -> fmt::Result {
         let number = self.number();
         match self {
-            ReplayFault::BadModel(inner) => {
-                let reason = inner.reason.number();
-                let place = inner.place;
-                write!(f, "{number}: {reason} at {place}")
-            }
+            ReplayFault::BadModel(inner) => write!(f, "{number}: {inner}"),
             _ => write!(f, "{number}"),
         }
     }

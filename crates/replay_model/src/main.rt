@@ -47,10 +47,7 @@ fn run(rt: &HostRuntime, bytes: &[u8], model: &[u8]) -> io::Result<()> {
 fn main(rt: HostRuntime) -> io::Result<()> {
     let mut args = env::args(&rt)?;
     let _program = args.next();
-    let Some(problem) = args.next() else {
-        return println!(rt; "usage: replay_model PROBLEM MODEL");
-    };
-    let Some(model) = args.next() else {
+    let (Some(problem), Some(model)) = (args.next(), args.next()) else {
         return println!(rt; "usage: replay_model PROBLEM MODEL");
     };
     let bytes = fs::read(&rt, problem.as_str())?;

@@ -1,6 +1,7 @@
-use Rattle.std.proofs.Common.{sym}
+use Rattle.std.proofs.Common.{arith}
+use Rattle.std.proofs.lemmas.Grind.{common_steps}
 use Rattle.held.proofs.Explanations.{past}
 use Rattle.held.proofs.explanation.Explanation.has.Goals as goal
 
-pub returns-else-word-lt8 : goal.returns-else-word-lt8
-returns-else-word-lt8 c = sym (past c.args.self.now.words c.args.unknown c.args.self.now.long c.if-word-lt8.false)
+pub returns : goal.returns
+returns c = grind (arith, common_steps, past)

@@ -8,7 +8,7 @@ use Rattle.judge.specs.Texts.{text_of, tlength}
 use Rattle.judge.proofs.Texts.{reads, shown}
 use Rattle.problem.specs.declared.view.View.TheVariants as view
 use Rattle.judge.proofs.Sets.{adds_none, adds_append, adds_only, explains}
-use Rattle.judge.proofs.Agreeing.{opens, shut, opens_comparing, shut_comparing, stands_missing, stands_unknown, stands_term, stands_is, by, by_verdict, lost, lost_verdict, lost_right, still_waits, as_none, as_head, as_verdict, agrees_join, concurs_join, holds_length, and_left_false, and_left_true, pairs_none, pairs_more}
+use Rattle.judge.proofs.Agreeing.{opens, shut, opens_comparing, shut_comparing, stands_missing, stands_unknown, stands_term, stands_is, by, by_verdict, lost, lost_verdict, lost_right, still_waits, as_none, as_head, as_verdict, agrees_join, concurs_join, holds_length, not_false, false_head, and_left_true, lost_and, pairs_none, pairs_more}
 use Rattle.judge.proofs.Keeping.{stands_kept, env_kept, row_kept}
 use Rattle.judge.proofs.judge.Judge.+judging.Goals as goal
 
@@ -205,55 +205,48 @@ head-returns-in-Term-clause-heads g t c d h le s =
     let q = stands_term (Reads x) l.memory.places.now l.memory.top c.args.at c.in-Term.place c.in-Term.env h c.in-Term.is s in
     by (ap (λ (k : Held ℕ). headed x.problem K (judges x.problem K (d - 1)) k (l.steps - 1)) (sym q.2) ∙ opens x.problem K d l.steps h (omega arith) (omega arith)) (c.head_of_term.ensures.heads (d - 1) q.0 q.1 (omega arith) q.3 q.4)
 
-pub head_of_and-returns-then-constructor-eq0-clause-heads : goal.head_of_and-returns-then-constructor-eq0-clause-heads
-head_of_and-returns-then-constructor-eq0-clause-heads g fuel c d t u ρ le rt ru b =
+pub head_of_and-returns-then-is_false-clause-heads : goal.head_of_and-returns-then-is_false-clause-heads
+head_of_and-returns-then-is_false-clause-heads g fuel c d t u ρ le rt ru b =
     let x : Text = text_of c.args.self.now.problem.now in
     let K : Unknowns ℕ = g.D.Decides.unknowns c.args.self.now.decider.now in
     let l = c.args.left.now in
     let right : Judging (Head ℕ) = (judges x.problem K d).head (hold u ρ) in
-    let v = as_head c.in-Is.is (c.in_ok-constructor.ensures.heads d (hold t ρ) le (rt, b)) in
+    let a = c.in_ok-first.ensures.heads d (hold t ρ) le (rt, b) in
+    let v = false_head c.in_ok-first.first a (c.is_false.ensures.yes c.if-is_false.true x _ _ _ _ a) in
     record {
-      means = (h[], v.1, ap (go_on (and_right right)) v.2 ∙ and_left_false right c.in-Is.constructor _ v.0 v.1 (omega arith), refl, tt, adds_only _ c.head.new.because.words (explains c.nothing-own.result.words c.head.new.because.words c.nothing-own.ensures v.5) c.join.ensures);
+      means = (h[], v.1, ap (go_on (and_right right)) v.2, refl, tt, adds_only _ c.head.new.because.words (explains c.nothing-own.result.words c.head.new.because.words c.nothing-own.ensures v.3) c.join.ensures);
     }
 
-pub head_of_and-returns-in_err-right-in-Is-clause-heads : goal.head_of_and-returns-in_err-right-in-Is-clause-heads
-head_of_and-returns-in_err-right-in-Is-clause-heads g fuel c d t u ρ le rt ru b =
+pub head_of_and-returns-in_err-right-clause-heads : goal.head_of_and-returns-in_err-right-clause-heads
+head_of_and-returns-in_err-right-clause-heads g fuel c d t u ρ le rt ru b =
     let x : Text = text_of c.args.self.now.problem.now in
     let K : Unknowns ℕ = g.D.Decides.unknowns c.args.self.now.decider.now in
     let l = c.args.left.now in
     let right : Judging (Head ℕ) = (judges x.problem K d).head (hold u ρ) in
-    let v = as_head c.in-Is.is (c.in_ok-constructor.ensures.heads d (hold t ρ) le (rt, b)) in
-    lost c.from_residual-in_err-right-in-Is.ensures (ap (go_on (and_right right)) v.2 ∙ sym (and_left_true right c.in-Is.constructor _ v.0 v.1 (omega arith))
-    ∙ ap (go_on (λ h. give (and_true v.1 h))) (c.in_err-right-in-Is.ensures.heads d (hold u ρ) (omega arith) (ru, env_kept (Reads x) c.head.ensures.kept c.args.env ρ b)).means)
+    let a = c.in_ok-first.ensures.heads d (hold t ρ) le (rt, b) in
+    lost c.from_residual-in_err-right.ensures (lost_and right c.in_ok-first.first a (c.is_false.ensures.no c.if-is_false.false x _ _ _ _ a)
+    (c.in_err-right.ensures.heads d (hold u ρ) (omega arith) (ru, env_kept (Reads x) c.head.ensures.kept c.args.env ρ b)).means)
 
-pub head_of_and-returns-in_err-right-in-Waits-clause-heads : goal.head_of_and-returns-in_err-right-in-Waits-clause-heads
-head_of_and-returns-in_err-right-in-Waits-clause-heads g fuel c d t u ρ le rt ru b =
+pub head_of_and-returns-in-Is-clause-heads : goal.head_of_and-returns-in-Is-clause-heads
+head_of_and-returns-in-Is-clause-heads g fuel c d t u ρ le rt ru b =
     let x : Text = text_of c.args.self.now.problem.now in
     let K : Unknowns ℕ = g.D.Decides.unknowns c.args.self.now.decider.now in
     let l = c.args.left.now in
     let right : Judging (Head ℕ) = (judges x.problem K d).head (hold u ρ) in
-    let v = as_head c.in-Waits.is (c.in_ok-constructor.ensures.heads d (hold t ρ) le (rt, b)) in
-    lost c.from_residual-in_err-right-in-Waits.ensures (ap (go_on (and_right right)) v ∙ ap (go_on (λ h. give (and_waits c.in-Waits.unknown h))) (c.in_err-right-in-Waits.ensures.heads d (hold u ρ) (omega arith) (ru, env_kept (Reads x) c.head.ensures.kept c.args.env ρ b)).means)
+    let a = c.in_ok-first.ensures.heads d (hold t ρ) le (rt, b) in
+    let v = as_head c.in-Is.is a in
+    by (and_left_true right c.in-Is.constructor _ v.0 v.1 (not_false v.2 (c.is_false.ensures.no c.if-is_false.false x _ _ _ _ a)) ∙ ap (go_on (and_right right)) (sym v.2))
+    (c.and_true.ensures.agrees x c.head-2.new.left c.args.because.now.words v.1 _ (explains c.nothing-own.result.words c.head.new.because.words c.nothing-own.ensures v.5) (c.in_ok-right.ensures.heads d (hold u ρ) (omega arith) (ru, env_kept (Reads x) c.head.ensures.kept c.args.env ρ b)))
 
-pub head_of_and-returns-in_ok-right-in-Is-clause-heads : goal.head_of_and-returns-in_ok-right-in-Is-clause-heads
-head_of_and-returns-in_ok-right-in-Is-clause-heads g fuel c d t u ρ le rt ru b =
+pub head_of_and-returns-in-Waits-clause-heads : goal.head_of_and-returns-in-Waits-clause-heads
+head_of_and-returns-in-Waits-clause-heads g fuel c d t u ρ le rt ru b =
     let x : Text = text_of c.args.self.now.problem.now in
     let K : Unknowns ℕ = g.D.Decides.unknowns c.args.self.now.decider.now in
     let l = c.args.left.now in
     let right : Judging (Head ℕ) = (judges x.problem K d).head (hold u ρ) in
-    let v = as_head c.in-Is.is (c.in_ok-constructor.ensures.heads d (hold t ρ) le (rt, b)) in
-    by (and_left_true right c.in-Is.constructor _ v.0 v.1 (omega arith) ∙ ap (go_on (and_right right)) (sym v.2))
-    (c.and_true.ensures.agrees x c.head-in-Is.new.left c.args.because.now.words v.1 _ (explains c.nothing-own.result.words c.head.new.because.words c.nothing-own.ensures v.5) (c.in_ok-right-in-Is.ensures.heads d (hold u ρ) (omega arith) (ru, env_kept (Reads x) c.head.ensures.kept c.args.env ρ b)))
-
-pub head_of_and-returns-in_ok-right-in-Waits-clause-heads : goal.head_of_and-returns-in_ok-right-in-Waits-clause-heads
-head_of_and-returns-in_ok-right-in-Waits-clause-heads g fuel c d t u ρ le rt ru b =
-    let x : Text = text_of c.args.self.now.problem.now in
-    let K : Unknowns ℕ = g.D.Decides.unknowns c.args.self.now.decider.now in
-    let l = c.args.left.now in
-    let right : Judging (Head ℕ) = (judges x.problem K d).head (hold u ρ) in
-    let v = as_head c.in-Waits.is (c.in_ok-constructor.ensures.heads d (hold t ρ) le (rt, b)) in
-    by (ap (go_on (and_right right)) (sym v))
-    (c.and_waits.ensures.agrees x c.head-in-Waits.new.left _ _ _ (c.in_ok-right-in-Waits.ensures.heads d (hold u ρ) (omega arith) (ru, env_kept (Reads x) c.head.ensures.kept c.args.env ρ b)))
+    let a = c.in_ok-first.ensures.heads d (hold t ρ) le (rt, b) in
+    by (ap (go_on (and_right right)) (sym (as_head c.in-Waits.is a)))
+    (c.and_waits.ensures.agrees x c.head-2.new.left _ _ _ (c.in_ok-right.ensures.heads d (hold u ρ) (omega arith) (ru, env_kept (Reads x) c.head.ensures.kept c.args.env ρ b)))
 
 pub head_of_case-returns-in-Is-clause-heads : goal.head_of_case-returns-in-Is-clause-heads
 head_of_case-returns-in-Is-clause-heads g fuel c d t ts ρ le long rt rts b =
