@@ -10,7 +10,7 @@ use trail::{Reason, Search, Trail};
 // No watch.
 // Kept as it is: the lists lie in arrays and name their watches by number, since nothing is allocated after a chooser is made. With
 // `None` at their ends each link takes 8 bytes and not 4: 8 more for each of E / 3 + 16,384 clauses, past the documented memory.
-const NONE: u32 = 4294967295;
+const NONE: u32 = u32::MAX;
 
 // Clauses from this number on are not watched, so that the watches of all others have numbers below `NONE`.
 const MOST_WATCHED: u32 = 2147483647;
@@ -108,6 +108,7 @@ impl Watches {
     {
         let mut before = NONE;
         let mut w = self.first.get(l as usize).copied().unwrap_or(NONE);
+        // Kept as it is: a list changes while it is gone over, which no iterator over it allows. There are two watches a clause.
         for _ in 0..self.clauses.len().saturating_mul(2) {
             let c = w / 2;
             let Some(watched) = self.clauses.get(c as usize) else {
