@@ -1,4 +1,4 @@
-ghost use Rattle.std.specs.Prelude.{◌≡◌, ◌+◌, ◌<◌, true};
+ghost use Rattle.std.specs.Prelude.{◌≡◌, ◌+◌, ◌-◌, ◌^◌, ◌<◌, true};
 
 // When the search begins anew.
 #[derive(Clone, Copy)]
@@ -13,9 +13,13 @@ pub(crate) struct Restarts {
 }
 
 impl Restarts {
-    pub fn new() -> Restarts {
+    // Makes restarts of which the first is due after 100 clashes, and none is used up.
+    pub fn new() -> Restarts
+        ensures left { result.left ≡ 2 ^ 32 - 1 }
+        ensures waits { (result.since ≡ 0) × (result.wait ≡ 100) × (result.most ≡ 100) }
+    {
         Restarts {
-            left: 4294967295,
+            left: u32::MAX,
             since: 0,
             wait: 100,
             most: 100,
