@@ -8,9 +8,9 @@ use trail::{Trail, Value};
 const VARIABLES: usize = MOST_VARIABLES as usize;
 
 // How far an activity may grow before all are divided by 2 ^ 40.
-const HIGH: u64 = 1152921504606846976;
+const HIGH: u64 = 1 << 60;
 
-const SCALE: u64 = 1099511627776;
+const SCALE: u64 = 1 << 40;
 
 #[derive(Clone, Copy)]
 struct Variable {

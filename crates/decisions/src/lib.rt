@@ -27,6 +27,7 @@ pub fn begin(search: &mut Search)
     ensures forced { Forced search.new.trail.steps.items }
 {
     search.clear();
+    // Kept as it is: literals are numbers, and whether one is off is asked by its number.
     for l in 0..LITERALS {
         put_known(search, l);
     }

@@ -13,7 +13,7 @@ use trail::{Reason, Search, Trail};
 const NONE: u32 = u32::MAX;
 
 // Clauses from this number on are not watched, so that the watches of all others have numbers below `NONE`.
-const MOST_WATCHED: u32 = 2147483647;
+const MOST_WATCHED: u32 = NONE / 2;
 
 // What is kept of each clause.
 #[derive(Clone, Copy)]
