@@ -1,16 +1,16 @@
-ghost use Rattle.std.specs.Prelude.{◌≡◌, ℕ, ◌+◌, ◌/◌, ◌<◌, ◌≤◌, length, vec_len, vec_capacity, All, IfSome};
+ghost use Rattle.std.specs.Prelude.{◌≡◌, ℕ, ◌+◌, ◌/◌, ◌<◌, ◌≤◌, [], length, replicate, vec_len, vec_capacity, All, IfOk, IfSome};
 ghost use Rattle.trail.specs.Values.{Free};
 
+use rows::MOST_VARIABLES;
 use std::alloc::{AllocError, Global};
 use trail::{Trail, Value};
 
-// How many variables there are at most.
-const VARIABLES: usize = 4096;
+const VARIABLES: usize = MOST_VARIABLES as usize;
 
 // How far an activity may grow before all are divided by 2 ^ 40.
-const HIGH: u64 = 1152921504606846976;
+const HIGH: u64 = 1 << 60;
 
-const SCALE: u64 = 1099511627776;
+const SCALE: u64 = 1 << 40;
 
 #[derive(Clone, Copy)]
 struct Variable {
@@ -19,6 +19,24 @@ struct Variable {
     place: Option<u16>,
     // The value that it last had.
     phase: bool,
+}
+
+// A variable that took part in no clash, and that no trail had.
+const FRESH: Variable = Variable {
+    activity: 0,
+    place: None,
+    phase: false,
+};
+
+// Keeps the values that are known.
+fn keep_phases(variables: &mut [Variable], values: &[Value]) {
+    for (variable, value) in variables.iter_mut().zip(values) {
+        match value {
+            Value::True => variable.phase = true,
+            Value::False => variable.phase = false,
+            Value::Open => {}
+        }
+    }
 }
 
 // The variables by activity, and the value that each last had. The memory is reserved once.
@@ -36,15 +54,13 @@ pub struct Order {
 
 impl Order {
     // Makes an order of which no variable is in the heap.
-    pub fn new(heap: Global) -> Result<Order, AllocError> {
-        let variable = Variable {
-            activity: 0,
-            place: None,
-            phase: false,
-        };
+    pub fn new(heap: Global) -> Result<Order, AllocError>
+        ensures heap { IfOk result (λ o. o.heap.items ≡ []) }
+        ensures variables { IfOk result (λ o. o.variables.items ≡ replicate 4096 FRESH) }
+    {
         Ok(Order {
             heap: Vec::with_capacity(heap, VARIABLES)?,
-            variables: vec![in heap; variable; VARIABLES]?,
+            variables: vec![in heap; FRESH; VARIABLES]?,
             step: 65536,
         })
     }
@@ -170,12 +186,9 @@ impl Order {
 
     // Keeps the values of the trail's variables, of which the first `n` are allotted, and puts these into the heap.
     pub fn refill(&mut self, trail: &Trail, n: usize) {
-        for (v, value) in trail.values[..n.min(VARIABLES)].iter().enumerate() {
-            match value {
-                Value::True => self.variables[v].phase = true,
-                Value::False => self.variables[v].phase = false,
-                Value::Open => {}
-            }
+        let allotted = n.min(VARIABLES);
+        keep_phases(&mut self.variables, &trail.values[..allotted]);
+        for v in 0..allotted {
             self.insert(v as u16);
         }
     }

@@ -1,6 +1,6 @@
 -- The clause that a walk back over the trail draws: at each place an allowed way meets the clause written so far, or makes a
 -- seen literal below false.
-use Rattle.std.proofs.Common.{◌≡◌, ℕ, zero, suc, ◌+◌, ◌/◌, ◌<◌, Bool, true, false, ◌⊎◌, List, [], ◌∷◌, ◌++◌, length, get_or, set, Some, None, Option, sym, refl, ◌∙◌, subst, inl, inr, ⊎_elim, arith, get_or-set_other, get_or-set_same}
+use Rattle.std.proofs.Common.{◌≡◌, ℕ, zero, suc, ◌+◌, ◌/◌, ◌<◌, Bool, true, false, ◌⊎◌, List, [], ◌∷◌, ◌++◌, length, get_or, Some, None, Option, sym, refl, subst, inl, inr, ⊎_elim, arith}
 use Rattle.std.proofs.lemmas.Bool.{both_ways, or_cases, or_left, or_right, cases_eq}
 use Rattle.chooser.specs.Ways.{lit, some}
 use Rattle.rows.specs.Lits.{Turned}
@@ -23,10 +23,6 @@ module _ (f : ℕ → Bool) where
   pub some_last : (c : List ℕ) (t : ℕ) → f t ≡ true → some f (c ++ t ∷ []) ≡ true
   some_last [] t e = or_left (f t) false e
   some_last (x ∷ xs) t e = or_right (f x) (some f (xs ++ t ∷ [])) (some_last xs t e)
-
-pub grows_set : (a b : List Bool) (v : ℕ) → Grows a b → v < length b → Grows a (set b v true)
-grows_set a b v g lt u e =
-    ⊎_elim (λ s. subst (λ k. get_or (set b v true) k false ≡ true) (sym s) (get_or-set_same b v true false lt)) (λ ne. get_or-set_other b v u true false ne ∙ g u e) (cases_eq u v)
 
 pub wrong_grows : (p : ℕ → Bool) (steps : List Step) (a b : List Bool) (i : ℕ) → Grows a b → Wrong p steps a i → Wrong p steps b i
 wrong_grows p steps a b i g w = (w.0, w.1, g (literal_at steps w.0 / 2) w.2, w.3)

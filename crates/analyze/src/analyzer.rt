@@ -1,11 +1,11 @@
-ghost use Rattle.std.specs.Prelude.{◌≡◌, ℕ, ◌+◌, ◌-◌, ◌/◌, ◌<◌, ◌≤◌, ◌⊎◌, Bool, true, length, slice_index_or, vec_capacity};
+ghost use Rattle.std.specs.Prelude.{◌≡◌, ℕ, ◌+◌, ◌-◌, ◌/◌, ◌<◌, ◌≤◌, ◌⊎◌, Bool, true, [], length, replicate, slice_index_or, vec_capacity, IfOk};
 ghost use Rattle.chooser.specs.Ways.{lit, some};
 ghost use Rattle.rows.specs.Lits.{Turned};
 ghost use Rattle.implied.specs.Implied.{allowed};
 ghost use Rattle.trail.specs.Trails.{literal_at, Dead};
 ghost use Rattle.analyze.specs.Analysis.{Wrong, Grows, Absorbed, Drawn, Opposed, Jump};
 
-use rows::turned;
+use rows::{MOST_VARIABLES, turned};
 use std::alloc::{AllocError, Global};
 use trail::{Reason, Search, Trail};
 
@@ -23,13 +23,21 @@ pub struct Analyzer {
     ghost room: { vec_capacity clause ≡ 4096 },
 }
 
+const VARIABLES: usize = MOST_VARIABLES as usize;
+
 impl Analyzer {
-    pub fn new(heap: Global) -> Result<Analyzer, AllocError> {
+    // Makes an analyzer that has no clause, saw no variable and met no level.
+    pub fn new(heap: Global) -> Result<Analyzer, AllocError>
+        ensures clause { IfOk result (λ a. a.clause.items ≡ []) }
+        ensures seen { IfOk result (λ a. a.seen.items ≡ replicate 4096 Bool.false) }
+        ensures left { IfOk result (λ a. a.left ≡ 0) }
+        ensures met { IfOk result (λ a. a.met.items ≡ replicate 4097 0) }
+    {
         Ok(Analyzer {
-            clause: Vec::with_capacity(heap, 4096)?,
-            seen: vec![in heap; false; 4096]?,
+            clause: Vec::with_capacity(heap, VARIABLES)?,
+            seen: vec![in heap; false; VARIABLES]?,
             left: 0,
-            met: vec![in heap; 0u32; 4097]?,
+            met: vec![in heap; 0u32; VARIABLES + 1]?,
         })
     }
 
@@ -130,7 +138,7 @@ impl Analyzer {
         for i in (0..search.trail.steps.len()).rev() {
             let l = search.trail.step(i).literal;
             if self.is_seen(l) && !self.attempt(search, i) {
-                if self.clause.len() >= 4096 {
+                if self.clause.len() >= VARIABLES {
                     return false;
                 }
                 self.clause.push_reserved(turned(l));

@@ -1,9 +1,8 @@
 // The search with learning: propagate, decide, and at a clash learn a clause and jump back, until the answer is shown.
 #![tactic(auto)]
 
-ghost use Rattle.std.specs.Prelude.{◌≡◌, ◌≤◌, true, length};
-ghost use Rattle.chooser.specs.Ways.{allotted};
-ghost use Rattle.rows.specs.Rows.{inside};
+ghost use Rattle.std.specs.Prelude.{◌≡◌, length};
+ghost use Rattle.outcome.specs.Outcome.{Question};
 ghost use Rattle.cdcl.specs.Ended.{Ended};
 
 mod restarts;
@@ -22,12 +21,9 @@ pub enum Outcome {
 }
 
 // Searches for a way that meets each clause that was added and each assumption.
-// Kept as it is: what holds of `out` stands in the contracts here and of `advance`, `choose` and `conclude`, since it is memory
-// lent by a `&mut`, beside which no ghost field stands.
+// Kept as it is: `given` and `out` beside each other, as in `conclude` of outcome, which says why.
 pub fn run(solver: &mut Solver, given: &[u16], out: &mut [u8]) -> Outcome
-    requires few { length out.old ≤ 4096 }
-    requires sound { inside (length out.old) 0 solver.old.search.facts.store.row.items ≡ true }
-    requires named { allotted (length out.old) given.now ≡ true }
+    requires asks { Question solver.old.search.facts.store.row.items given.now (length out.old) }
     ensures store { solver.new.search.facts.store ≡ solver.old.search.facts.store }
     ensures ended { Ended solver.new.search.facts.store.row.items given.now out.new result }
 {

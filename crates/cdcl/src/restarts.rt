@@ -1,4 +1,7 @@
-ghost use Rattle.std.specs.Prelude.{◌≡◌, ◌+◌, ◌<◌, true};
+ghost use Rattle.std.specs.Prelude.{◌≡◌, ◌+◌, ◌-◌, ◌^◌, ◌<◌, true};
+
+// How many clashes the first stretch has, and each that begins a round of longer ones.
+const SHORTEST: u32 = 100;
 
 // When the search begins anew.
 #[derive(Clone, Copy)]
@@ -13,12 +16,16 @@ pub(crate) struct Restarts {
 }
 
 impl Restarts {
-    pub fn new() -> Restarts {
+    // Makes restarts of which the first is due after the shortest stretch, and none is used up.
+    pub fn new() -> Restarts
+        ensures left { result.left ≡ 2 ^ 32 - 1 }
+        ensures waits { (result.since ≡ 0) × (result.wait ≡ SHORTEST) × (result.most ≡ SHORTEST) }
+    {
         Restarts {
-            left: 4294967295,
+            left: u32::MAX,
             since: 0,
-            wait: 100,
-            most: 100,
+            wait: SHORTEST,
+            most: SHORTEST,
         }
     }
 
@@ -28,7 +35,7 @@ impl Restarts {
         self.since >= self.wait && self.left > 0
     }
 
-    // Begins the next stretch of clashes: it is a tenth longer each time, and 100 again past the most, which grows then.
+    // Begins the next stretch of clashes: it is a tenth longer each time, and the shortest again past the most, which grows then.
     pub fn begin_next(&mut self)
         requires { 0 < self.old.left }
         ensures { self.new.left + 1 ≡ self.old.left }
@@ -36,11 +43,11 @@ impl Restarts {
         self.left -= 1;
         self.since = 0;
         self.wait = if self.wait > self.most {
-            100
+            SHORTEST
         } else {
             self.wait.saturating_add(self.wait / 10)
         };
-        if self.wait == 100 {
+        if self.wait == SHORTEST {
             self.most = self.most.saturating_add(self.most / 10);
         }
     }

@@ -19,11 +19,6 @@ use Rattle.activity.specs.Cuts.{Kept}
 use Rattle.analyze.specs.Analysis.{Place}
 use Rattle.cdcl_steps.specs.Search.{Jumped, top, measure}
 
-digit_good : (r : Reason) → digits (digit r ∷ []) ≡ true
-digit_good Decision = refl
-digit_good Known = refl
-digit_good (Clause c) = refl
-
 digits_good : (steps : List Step) → digits (digits_of steps) ≡ true
 digits_good [] = refl
 digits_good (s ∷ ss) = digits_first s.reason (digits_of ss) (digits_good ss)

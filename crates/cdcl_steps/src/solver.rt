@@ -1,7 +1,6 @@
 ghost use Rattle.std.specs.Prelude.{◌≡◌, ℕ, ◌≤◌, true, List, length, IfOk};
-ghost use Rattle.chooser.specs.Ways.{allotted};
-ghost use Rattle.rows.specs.Rows.{inside};
 ghost use Rattle.trail.specs.Trails.{Grew};
+ghost use Rattle.outcome.specs.Outcome.{Question};
 ghost use Rattle.decisions.specs.Plans.{Planned, Chosen};
 
 use activity::Order;
@@ -11,7 +10,7 @@ use forget::forget;
 use implied::{Facts, Pool};
 use outcome::Next;
 use propagate::Watches;
-use rows::ClauseStore;
+use rows::{ClauseStore, MOST_ENTRIES};
 use std::alloc::{AllocError, Global};
 use trail::{Search, Trail};
 
@@ -48,7 +47,7 @@ impl Solver {
     pub fn new(heap: Global, store: ClauseStore) -> Result<Solver, AllocError>
         ensures { IfOk result (λ s. s.search.facts.store ≡ store) }
     {
-        let entries = store.entries_left().min(65535);
+        let entries = store.entries_left().min(MOST_ENTRIES);
         let clauses = entries / 3 + CLAUSES;
         let facts = Facts::new(heap, store, entries + LEARNED, clauses)?;
         Ok(Solver {
@@ -83,11 +82,10 @@ impl Solver {
     }
 
     // Propagates, and chooses what comes next.
+    // Kept as it is: `given` and `out` beside each other, as in `conclude` of outcome, which says why.
     pub fn advance(&mut self, given: &[u16], plan: &mut Plan, out: &mut [u8]) -> Next
         requires planned { Planned given.now self.old.search.trail.steps.items plan.old }
-        requires few { length out.old ≤ 4096 }
-        requires sound { inside (length out.old) 0 self.old.search.facts.store.row.items ≡ true }
-        requires named { allotted (length out.old) given.now ≡ true }
+        requires asks { Question self.old.search.facts.store.row.items given.now (length out.old) }
         ensures store { self.new.search.facts.store ≡ self.old.search.facts.store }
         ensures pool { self.new.search.facts.pool ≡ self.old.search.facts.pool }
         ensures planned { Planned given.now self.new.search.trail.steps.items plan.new }

@@ -3,16 +3,15 @@
 #![tactic(auto)]
 
 ghost use Rattle.std.specs.Prelude.{◌≡◌, ℕ, ◌<◌, ◌≤◌, true, length, slice_index, MatchOption};
-ghost use Rattle.chooser.specs.Ways.{allotted};
-ghost use Rattle.rows.specs.Rows.{inside};
 ghost use Rattle.trail.specs.Values.{Free};
 ghost use Rattle.activity.specs.Cuts.{Kept};
+ghost use Rattle.outcome.specs.Outcome.{Question};
 ghost use Rattle.decisions.specs.Plans.{Forced, Planned, Assumed, Chosen};
 
 use activity::{Order, unwind};
 use implied::Facts;
 use outcome::{Next, conclude};
-use rows::turned;
+use rows::{MOST_VARIABLES, turned};
 use trail::{Reason, Search, Trail, Value};
 
 mod plan;
@@ -20,7 +19,7 @@ mod plan;
 pub use plan::Plan;
 
 // The literals of all variables are below it.
-const LITERALS: u16 = 8192;
+const LITERALS: u16 = (2 * MOST_VARIABLES) as u16;
 
 // Puts the literals that are known true on an empty trail.
 pub fn begin(search: &mut Search)
@@ -28,6 +27,7 @@ pub fn begin(search: &mut Search)
     ensures forced { Forced search.new.trail.steps.items }
 {
     search.clear();
+    // Kept as it is: literals are numbers, and whether one is off is asked by its number.
     for l in 0..LITERALS {
         put_known(search, l);
     }
@@ -92,6 +92,7 @@ fn assume(search: &Search, given: &[u16], plan: &mut Plan) -> Option<Next>
 }
 
 // Chooses what to decide; where nothing is left to decide, holds the values against the clauses.
+// Kept as it is: `given` and `out` beside each other, as in `conclude`, which says why.
 pub fn choose(
     search: &Search,
     given: &[u16],
@@ -99,9 +100,7 @@ pub fn choose(
     plan: &mut Plan,
     out: &mut [u8],
 ) -> Next
-    requires few { length out.old ≤ 4096 }
-    requires sound { inside (length out.old) 0 search.now.facts.store.row.items ≡ true }
-    requires named { allotted (length out.old) given.now ≡ true }
+    requires asks { Question search.now.facts.store.row.items given.now (length out.old) }
     requires planned { Planned given.now search.now.trail.steps.items plan.old }
     ensures planned { Planned given.now search.now.trail.steps.items plan.new }
     ensures chosen { Chosen search.now given.now plan.new out.new result }

@@ -16,7 +16,7 @@ fn sift(facts: &Facts, spare: &mut Pool, watches: &mut Watches, now: u32, window
     let mut learned: usize = 0;
     // Kept as it is: clauses are asked for by number. A pool is seen as a list, and an iterator over it would be one more type with
     // a proof, for two loops that want the numbers besides.
-    for c in 0..4294967295 {
+    for c in 0..u32::MAX {
         let Some(clause) = facts.pool.clause(c) else {
             break;
         };

@@ -1,7 +1,7 @@
 -- What values come to that are held against the clauses of a row and the assumptions.
-use Rattle.std.specs.Prelude.{◌≡◌, ℕ, Bool, true, false, ◌&&◌, List, length, Contains, slice_index}
+use Rattle.std.specs.Prelude.{◌≡◌, ℕ, ◌≤◌, Bool, true, false, ◌&&◌, List, length, Contains, slice_index}
 use Rattle.chooser.specs.Ways.{lit, some, every, allotted, written, bits}
-use Rattle.rows.specs.Rows.{holds}
+use Rattle.rows.specs.Rows.{inside, holds}
 use Rattle.implied.specs.Implied.{allowed}
 use Rattle.trail.specs.Trails.{Dead}
 use Rattle.trail.specs.Values.{value_at, Free}
@@ -10,6 +10,12 @@ use Rattle.trail.specs.declared.step.Value.{Value}
 use Rattle.trail.specs.declared.step.Value.TheVariants.{False, True, Open}
 use Rattle.outcome.specs.declared.Next.{Next}
 use Rattle.outcome.specs.declared.Next.TheVariants.{Decide, Clash, Yes, No}
+
+-- a question: the clauses and the assumptions are over `size` variables, 4,096 at most
+pub record Question (row given : List ℕ) (size : ℕ) : Type 0 where
+  pub few : size ≤ 4096
+  pub sound : inside size 0 row ≡ true
+  pub named : allotted size given ≡ true
 
 -- the byte that an answer has for a value: 1 for true, else 0
 abbrev pub byte_of : Value → ℕ

@@ -3,12 +3,12 @@
 #![tactic(auto)]
 
 ghost use Rattle.std.specs.Prelude.{◌≡◌, ℕ, ◌<◌, ◌≤◌, Bool, true, false, length, slice_index, MatchOption};
-ghost use Rattle.chooser.specs.Ways.{lit, some, every, allotted, written};
+ghost use Rattle.chooser.specs.Ways.{lit, some, every, written};
 ghost use Rattle.rows.specs.Rows.{inside, holds};
 ghost use Rattle.implied.specs.Implied.{allowed};
 ghost use Rattle.trail.specs.Trails.{literal_at};
 ghost use Rattle.trail.specs.Values.{Free};
-ghost use Rattle.outcome.specs.Outcome.{byte_of, Copied, Failing, Missed, Onto, Concluded};
+ghost use Rattle.outcome.specs.Outcome.{byte_of, Copied, Failing, Missed, Onto, Concluded, Question};
 
 use rows::ClauseIter;
 use trail::{Search, Trail, Value};
@@ -34,6 +34,8 @@ fn byte(value: Value) -> u8
 }
 
 // Writes the values out.
+// Kept as it is: what `out` holds is wanted after the loop, and of a slice that is written through a `zip` nothing is known then
+// (tried: the proof didn't close on what each byte is).
 fn write(trail: &Trail, out: &mut [u8])
     requires { length out.old ≤ 4096 }
     ensures { (k : ℕ) → k < length out.new → Copied trail.now.values out.new k }
@@ -95,10 +97,10 @@ fn reopen(search: &Search, out: &[u8], clause: &[u16]) -> Next
 }
 
 // Writes the values out, and holds them against each clause and each assumption.
+// Kept as it is: `given` and `out` beside each other. A struct of both with a ghost field was tried: the proof didn't close on what
+// `out` holds after the struct's last use.
 pub fn conclude(search: &Search, given: &[u16], out: &mut [u8]) -> Next
-    requires few { length out.old ≤ 4096 }
-    requires sound { inside (length out.old) 0 search.now.facts.store.row.items ≡ true }
-    requires named { allotted (length out.old) given.now ≡ true }
+    requires asks { Question search.now.facts.store.row.items given.now (length out.old) }
     requires assumed { (i : ℕ) → i < length given.now → (j : ℕ) × (j < length search.now.trail.steps.items) × (literal_at search.now.trail.steps.items j ≡ slice_index given.now i) }
     ensures { Concluded search.now.facts.store.row.items given.now search.now.trail.values search.now.trail.steps.items out.new result }
 {

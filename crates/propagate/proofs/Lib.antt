@@ -1,1 +1,2 @@
 pub mod Units
+pub mod Uses

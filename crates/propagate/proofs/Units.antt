@@ -1,5 +1,5 @@
 -- A clause of which all literals but one are false shows that one, and a clause that is false shows the trail dead.
-use Rattle.std.proofs.Common.{◌≡◌, ℕ, ◌<◌, Bool, true, false, ◌⊎◌, List, length, get_or, sym, refl, ◌∙◌, subst, ⊎_elim, inl, inr}
+use Rattle.std.proofs.Common.{◌≡◌, ℕ, ◌<◌, Bool, true, false, ◌⊎◌, List, length, get_or, sym, refl, subst, ⊎_elim, inl, inr}
 use Rattle.std.proofs.lemmas.Bool.{both_ways}
 use Rattle.chooser.specs.Ways.{lit, some}
 use Rattle.rows.proofs.Lits.{some_only}
@@ -10,7 +10,7 @@ use Rattle.trail.specs.declared.search.Search.{Search}
 use Rattle.trail.specs.Values.{Refuted}
 use Rattle.trail.specs.Trails.{Follows, Dead, Sound}
 use Rattle.trail.specs.Steps.{Pushed}
-use Rattle.trail.proofs.Sounds.{refuted_off, grew_none, grew_push, grew_trans}
+use Rattle.trail.proofs.Sounds.{refuted_off, grew_none, grew_push}
 use Rattle.propagate.specs.Visits.{Onward}
 
 module _ (X : (ℕ → Bool) → Bool) (values : List Value) (positions : List ℕ) (steps : List Step) (s : Sound X values positions steps) where
@@ -24,9 +24,6 @@ module _ (X : (ℕ → Bool) → Bool) (values : List Value) (positions : List �
 
     pub clash_dead : Refuted values other → Dead X steps
     clash_dead f p x along = both_ways (lit p other) (refuted_off X values positions steps s p other along f) (unit_follows p x along)
-
-pub onward_trans : (s t u : Search) → Onward s t → Onward t u → Onward s u
-onward_trans s t u g h = record { facts = h.facts ∙ g.facts; grew = grew_trans s.trail.steps.items t.trail.steps.items u.trail.steps.items g.grew h.grew }
 
 pub onward_none : (s : Search) → Onward s s
 onward_none s = record { facts = refl; grew = grew_none s.trail.steps.items }

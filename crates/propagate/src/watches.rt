@@ -1,18 +1,19 @@
-ghost use Rattle.std.specs.Prelude.{◌<◌, length};
+ghost use Rattle.std.specs.Prelude.{◌≡◌, ℕ, ◌<◌, ◌≤◌, true, false, length, replicate, slice_set, IfOk};
 ghost use Rattle.propagate.specs.Visits.{Stopped};
+ghost use Rattle.propagate.specs.Uses.{entry, timed, worth, Noted};
 
 use crate::visit::{Visit, unfalse, visit_clause};
-use rows::turned;
+use rows::{MOST_VARIABLES, turned};
 use std::alloc::{AllocError, Global};
 use trail::{Reason, Search, Trail};
 
 // No watch.
 // Kept as it is: the lists lie in arrays and name their watches by number, since nothing is allocated after a chooser is made. With
 // `None` at their ends each link takes 8 bytes and not 4: 8 more for each of E / 3 + 16,384 clauses, past the documented memory.
-const NONE: u32 = 4294967295;
+const NONE: u32 = u32::MAX;
 
 // Clauses from this number on are not watched, so that the watches of all others have numbers below `NONE`.
-const MOST_WATCHED: u32 = 2147483647;
+const MOST_WATCHED: u32 = NONE / 2;
 
 // What is kept of each clause.
 #[derive(Clone, Copy)]
@@ -47,9 +48,12 @@ pub struct Watches {
 
 impl Watches {
     // Makes empty lists, for so many clauses.
-    pub fn new(heap: Global, clauses: usize) -> Result<Watches, AllocError> {
+    pub fn new(heap: Global, clauses: usize) -> Result<Watches, AllocError>
+        ensures lists { IfOk result (λ w. w.first.items ≡ replicate 8192 NONE) }
+        ensures clauses { IfOk result (λ w. w.clauses.items ≡ replicate clauses UNWATCHED) }
+    {
         Ok(Watches {
-            first: vec![in heap; NONE; 8192]?,
+            first: vec![in heap; NONE; 2 * MOST_VARIABLES as usize]?,
             clauses: vec![in heap; UNWATCHED; clauses]?,
         })
     }
@@ -91,8 +95,8 @@ impl Watches {
         if let Some(watched) = self.clauses.get_mut(c as usize) {
             watched.from = 0;
             watched.glue = glue;
-            watched.used = now;
         }
+        self.stamp(c, now);
         if let [a, b, ..] = clause {
             self.watch(c, *a, *b);
         }
@@ -104,6 +108,7 @@ impl Watches {
     {
         let mut before = NONE;
         let mut w = self.first.get(l as usize).copied().unwrap_or(NONE);
+        // Kept as it is: a list changes while it is gone over, which no iterator over it allows. There are two watches a clause.
         for _ in 0..self.clauses.len().saturating_mul(2) {
             let c = w / 2;
             let Some(watched) = self.clauses.get(c as usize) else {
@@ -173,22 +178,34 @@ impl Watches {
         }
     }
 
+    // Writes the time `now` into the clause.
+    fn stamp(&mut self, c: u32, now: u32)
+        ensures lists { self.new.first ≡ self.old.first }
+        ensures clauses { self.new.clauses.items ≡ slice_set self.old.clauses.items c (timed (entry self.old c) now) }
+    {
+        if let Some(watched) = self.clauses.get_mut(c as usize) {
+            watched.used = now;
+        }
+    }
+
     // Writes the time `now` into the clauses that the seen variables of the trail follow by.
-    pub fn note_use(&mut self, trail: &Trail, seen: &[bool], now: u32) {
+    pub fn note_use(&mut self, trail: &Trail, seen: &[bool], now: u32)
+        ensures { Noted self.old self.new trail.now.steps.items seen.now (length trail.now.steps.items) now }
+    {
         for step in &trail.steps {
             let v = (step.literal / 2) as usize;
             if v < seen.len() && seen[v] {
                 if let Reason::Clause(c) = step.reason {
-                    if let Some(watched) = self.clauses.get_mut(c as usize) {
-                        watched.used = now;
-                    }
+                    self.stamp(c, now);
                 }
             }
         }
     }
 
     // Returns whether the clause is to be kept: one that was added, joins few levels, or was of use within the window.
-    pub fn is_worth(&self, c: u32, now: u32, window: u32) -> bool {
+    pub fn is_worth(&self, c: u32, now: u32, window: u32) -> bool
+        ensures { result ≡ worth (entry self.now c) now window }
+    {
         match self.clauses.get(c as usize) {
             Some(watched) => watched.glue <= 3 || now.wrapping_sub(watched.used) < window,
             None => true,
@@ -196,7 +213,13 @@ impl Watches {
     }
 
     // Gives the clause the number `to` in what is kept of it. Returns whether it is a learned one.
-    pub fn renumber(&mut self, c: u32, to: u32) -> bool {
+    pub fn renumber(&mut self, c: u32, to: u32) -> bool
+        ensures lists { self.new.first ≡ self.old.first }
+        ensures moved { c < length self.old.clauses.items → self.new.clauses.items ≡ slice_set self.old.clauses.items to (entry self.old c) }
+        ensures learned { result ≡ true → 0 < (entry self.old c).glue }
+        ensures added { result ≡ false → (entry self.old c).glue ≡ 0 }
+        ensures none { length self.old.clauses.items ≤ c → self.new ≡ self.old }
+    {
         let Some(watched) = self.clauses.get(c as usize).copied() else {
             return false;
         };

@@ -23,8 +23,8 @@ returns-then-not-is_open c =
     let is : get_or given k 0 ≡ g = get_or_default given k 0 g lt ∙ missed.among.2 in
     let wide = s.steady.wide in
     let same = c.write.auto.out in
-    let few = c.requires.few in
-    let below : get_or given k 0 < 2 * size = allotted_at size given k c.requires.named lt in
+    let few = c.requires.asks.few in
+    let below : get_or given k 0 < 2 * size = allotted_at size given k c.requires.asks.named lt in
     let at = c.requires.assumed k lt in
     both_dead (allowed s.facts.store.row.items) t.values t.positions t.steps.items s.steady g at.0 at.1 (at.2 ∙ is)
     (refuted_from t.values out g (c.write.ensures (g / 2) (omega arith)) (omega arith) (λ free. both_ways c.is_open.result c.if-not-is_open.true (c.is_open.ensures.shut free)) missed.off)
