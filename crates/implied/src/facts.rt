@@ -4,7 +4,7 @@ ghost use Rattle.implied.specs.Implied.{allowed, Met, Off};
 
 use crate::pool::Pool;
 use chooser::Fault;
-use rows::{ClauseStore, turned};
+use rows::{ClauseStore, MOST_LITERALS, turned};
 use std::alloc::{AllocError, Global};
 use std::mem::swap;
 
@@ -37,7 +37,7 @@ impl Facts {
         Ok(Facts {
             store,
             pool: Pool::new(heap, numbers, clauses)?,
-            off: vec![in heap; false; 8192]?,
+            off: vec![in heap; false; MOST_LITERALS]?,
         })
     }
 

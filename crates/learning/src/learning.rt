@@ -41,7 +41,7 @@ impl Chooser for Learning {
     ghost use Rattle.rows.specs.Store.{Spent};
     ghost use Rattle.learning.specs.Means.{learning_means, learning_laws};
 
-    const MAX_VARIABLES: u16 = MOST_VARIABLES;
+    const MAX_VARIABLES: u16 = MOST_VARIABLES as u16;
 
     ghost meaning = { learning_means };
 

@@ -22,13 +22,13 @@ impl Plain {
     {
         Ok(Plain {
             clauses: ClauseStore::new(heap, entries)?,
-            trail: Vec::with_capacity(heap, MOST_VARIABLES as usize)?,
+            trail: Vec::with_capacity(heap, MOST_VARIABLES)?,
         })
     }
 }
 
 impl Chooser for Plain {
-    const MAX_VARIABLES: u16 = MOST_VARIABLES;
+    const MAX_VARIABLES: u16 = MOST_VARIABLES as u16;
 
     ghost meaning = { plain_means };
 

@@ -8,7 +8,10 @@ use std::alloc::Global;
 // The most entries that a chooser may be made with, and the most variables that it can have.
 pub const MOST_ENTRIES: usize = 65535;
 
-pub const MOST_VARIABLES: u16 = 4096;
+pub const MOST_VARIABLES: usize = 4096;
+
+// Each variable has two literals: they are the numbers below this one.
+pub const MOST_LITERALS: usize = 2 * MOST_VARIABLES;
 
 // What a chooser was given: its clauses, and how many variables are allotted. Its memory is reserved once, when it is made: two
 // bytes for each entry.
@@ -57,7 +60,7 @@ impl ClauseStore {
     pub fn variables_left(&self) -> u16
         ensures { result ≡ (store_means self.now).room }
     {
-        MOST_VARIABLES - self.count
+        MOST_VARIABLES as u16 - self.count
     }
 
     // Returns how many entries are left.
@@ -72,7 +75,7 @@ impl ClauseStore {
         ensures grows { NewVariable (store_means self.old) (store_means self.new) result }
         ensures row { self.new.row.items ≡ self.old.row.items }
     {
-        if self.count >= MOST_VARIABLES {
+        if self.count as usize >= MOST_VARIABLES {
             return Err(Fault::NoVariable);
         }
         let variable = self.count;

@@ -4,7 +4,7 @@ ghost use Rattle.trail.specs.Trails.{step_at, literal_at};
 ghost use Rattle.trail.specs.Values.{Refuted, Holds, Valued};
 
 use crate::step::{Reason, Step, Value, making};
-use rows::turned;
+use rows::{MOST_VARIABLES, turned};
 use std::alloc::{AllocError, Global};
 
 // Literals in the order in which they were put, and what is known of each variable.
@@ -12,9 +12,9 @@ use std::alloc::{AllocError, Global};
 pub struct Trail {
     // Kept as it is: values and places in two arrays. Nearly each use asks for one of the two alone, so that a struct of both would
     // be no plainer.
-    pub values: [Value; 4096],
+    pub values: [Value; MOST_VARIABLES],
     // Where each variable that has a value stands among the steps.
-    pub positions: [u16; 4096],
+    pub positions: [u16; MOST_VARIABLES],
     pub steps: Vec<Step>,
     // The place of each decision.
     pub decisions: Vec<u16>,
@@ -32,10 +32,10 @@ impl Trail {
         ensures placed { IfOk result (λ t. length t.positions ≡ 4096) }
     {
         Ok(Trail {
-            values: [Value::Open; 4096],
-            positions: [0; 4096],
-            steps: Vec::with_capacity(heap, 4096)?,
-            decisions: Vec::with_capacity(heap, 4096)?,
+            values: [Value::Open; MOST_VARIABLES],
+            positions: [0; MOST_VARIABLES],
+            steps: Vec::with_capacity(heap, MOST_VARIABLES)?,
+            decisions: Vec::with_capacity(heap, MOST_VARIABLES)?,
         })
     }
 
@@ -44,7 +44,7 @@ impl Trail {
         ensures { result ≡ true → Refuted self.now.values l }
     {
         let v = (l / 2) as usize;
-        v < 4096 && self.values[v] == making(turned(l))
+        v < MOST_VARIABLES && self.values[v] == making(turned(l))
     }
 
     // Returns whether the literal is true.
@@ -53,7 +53,7 @@ impl Trail {
         ensures { result ≡ true → Holds self.now.values l }
     {
         let v = (l / 2) as usize;
-        v < 4096 && self.values[v] == making(l)
+        v < MOST_VARIABLES && self.values[v] == making(l)
     }
 
     // Returns whether the literal is true, false or open; None for what is no literal of a variable.
@@ -61,7 +61,7 @@ impl Trail {
         ensures { Valued self.now.values l result }
     {
         let v = (l / 2) as usize;
-        if v >= 4096 {
+        if v >= MOST_VARIABLES {
             return None;
         }
         let value = self.values[v];
@@ -87,7 +87,7 @@ impl Trail {
         ensures { IfSome result (λ j. (j < length self.now.steps.items) × Turned (literal_at self.now.steps.items j) l) }
     {
         let v = (l / 2) as usize;
-        if v >= 4096 {
+        if v >= MOST_VARIABLES {
             return None;
         }
         let j = self.positions[v] as usize;
@@ -99,7 +99,9 @@ impl Trail {
     }
 
     // Returns how many decisions were made.
-    pub fn levels(&self) -> u16 {
+    pub fn levels(&self) -> u16
+        ensures { result ≡ length self.now.decisions.items }
+    {
         self.decisions.len() as u16
     }
 
@@ -111,7 +113,7 @@ impl Trail {
     {
         let v = (l / 2) as usize;
         let place = self.steps.len() as u16;
-        if reason == Reason::Decision && self.decisions.len() < 4096 {
+        if reason == Reason::Decision && self.decisions.len() < MOST_VARIABLES {
             self.decisions.push_reserved(place);
         }
         let level = self.levels();
@@ -146,6 +148,6 @@ impl Trail {
     {
         self.steps.clear();
         self.decisions.clear();
-        self.values = [Value::Open; 4096];
+        self.values = [Value::Open; MOST_VARIABLES];
     }
 }
