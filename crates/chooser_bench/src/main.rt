@@ -3,7 +3,8 @@
 // Usage: chooser_bench plain|learning FILE ..
 #![tactic(auto)]
 
-ghost use Rattle.std.specs.Prelude.{◌≡◌, ℕ, vec_capacity};
+ghost use Rattle.std.specs.Prelude.{◌≡◌, vec_capacity};
+ghost use Rattle.rows.specs.declared.store.TheConstants.{MOST_VARIABLES};
 
 use chooser::{Answer, Chooser, Fault};
 use learning::Learning;
@@ -64,7 +65,7 @@ struct Line {
     number: u32,
     minus: bool,
     digits: bool,
-    ghost room: { vec_capacity literals ≡ 4096 },
+    ghost room: { vec_capacity literals ≡ MOST_VARIABLES },
 }
 
 impl Line {

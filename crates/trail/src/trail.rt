@@ -1,5 +1,6 @@
 ghost use Rattle.std.specs.Prelude.{◌≡◌, ◌-◌, ◌/◌, ◌<◌, true, [], length, replicate, vec_capacity, IfOk, IfSome};
 ghost use Rattle.rows.specs.Lits.{Turned};
+ghost use Rattle.rows.specs.declared.store.TheConstants.{MOST_LITERALS, MOST_VARIABLES};
 ghost use Rattle.trail.specs.Trails.{step_at, literal_at};
 ghost use Rattle.trail.specs.Values.{Refuted, Holds, Valued};
 
@@ -18,8 +19,8 @@ pub struct Trail {
     pub steps: Vec<Step>,
     // The place of each decision.
     pub decisions: Vec<u16>,
-    ghost room: { vec_capacity steps ≡ 4096 },
-    ghost levels: { vec_capacity decisions ≡ 4096 },
+    ghost room: { vec_capacity steps ≡ MOST_VARIABLES },
+    ghost levels: { vec_capacity decisions ≡ MOST_VARIABLES },
 }
 
 impl Trail {
@@ -28,8 +29,8 @@ impl Trail {
     // Makes an empty trail: every variable is open.
     pub fn new(heap: Global) -> Result<Trail, AllocError>
         ensures steps { IfOk result (λ t. t.steps.items ≡ []) }
-        ensures values { IfOk result (λ t. t.values ≡ replicate 4096 Value.Open) }
-        ensures placed { IfOk result (λ t. length t.positions ≡ 4096) }
+        ensures values { IfOk result (λ t. t.values ≡ replicate MOST_VARIABLES Value.Open) }
+        ensures placed { IfOk result (λ t. length t.positions ≡ MOST_VARIABLES) }
     {
         Ok(Trail {
             values: [Value::Open; MOST_VARIABLES],
@@ -107,8 +108,8 @@ impl Trail {
 
     // Puts the literal behind the others, and gives its variable the value that makes it true.
     pub(crate) fn put(&mut self, l: u16, reason: Reason)
-        requires small { l / 2 < 4096 }
-        requires room { length self.old.steps.items < 4096 }
+        requires small { l / 2 < MOST_VARIABLES }
+        requires room { length self.old.steps.items < MOST_VARIABLES }
         ensures { Put self.old self.new l reason }
     {
         let v = (l / 2) as usize;
@@ -129,7 +130,7 @@ impl Trail {
     // Takes the last literal away and returns it; its variable is open.
     pub(crate) fn take_last(&mut self) -> u16
         requires some { 0 < length self.old.steps.items }
-        requires named { literal_at self.old.steps.items (length self.old.steps.items - 1) < 8192 }
+        requires named { literal_at self.old.steps.items (length self.old.steps.items - 1) < MOST_LITERALS }
         ensures { TakenLast self.old self.new result }
     {
         let step = self.steps.pop().unwrap();
@@ -143,7 +144,7 @@ impl Trail {
     // Takes all literals away: every variable is open.
     pub(crate) fn clear(&mut self)
         ensures steps { self.new.steps.items ≡ [] }
-        ensures values { self.new.values ≡ replicate 4096 Value.Open }
+        ensures values { self.new.values ≡ replicate MOST_VARIABLES Value.Open }
         ensures positions { self.new.positions ≡ self.old.positions }
     {
         self.steps.clear();
