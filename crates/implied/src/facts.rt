@@ -1,4 +1,4 @@
-ghost use Rattle.std.specs.Prelude.{◌≡◌, ℕ, ◌+◌, ◌^◌, ◌<◌, ◌≤◌, Bool, true, false, [], ◌∷◌, ◌++◌, length, IfOk, MatchOption, is_ok, if◌then◌else◌};
+ghost use Rattle.std.specs.Prelude.{◌≡◌, ℕ, Bool, true, false, [], ◌∷◌, ◌++◌, length, IfOk, MatchOption, is_ok, if◌then◌else◌, ◌⊎◌};
 ghost use Rattle.chooser.specs.Ways.{lit, some};
 ghost use Rattle.implied.specs.Implied.{allowed, Met, Off};
 
@@ -70,11 +70,18 @@ impl Facts {
             return;
         };
         for m in clause {
-            if *m != l && !self.is_off(*m) {
+            if !self.is_off_or(*m, l) {
                 return;
             }
         }
         self.mark_true(l);
+    }
+
+    // Returns whether the literal `m` is off, or `l` itself.
+    fn is_off_or(&self, m: u16, l: u16) -> bool
+        ensures { result ≡ true → (p : ℕ → Bool) → allowed self.now.store.row.items p ≡ true → (lit p m ≡ false) ⊎ (m ≡ l) }
+    {
+        m == l || self.is_off(m)
     }
 
     // Puts a clause into the pool that every allowed way meets, and returns its number; None where there is no room.
