@@ -2,7 +2,7 @@
 // Literal 2i says that variable i is 1, literal 2i + 1 that it is 0.
 #![tactic(auto)]
 
-ghost use Rattle.std.specs.Prelude.{◌≡◌, ℕ, ◌+◌, Some};
+ghost use Rattle.std.specs.Prelude.{◌≡◌, ℕ, Some};
 ghost use Rattle.chooser.specs.Faults.{fault_number, fault_text, make_fault_text};
 ghost use Rattle.chooser.specs.Meaning.{Meaning, Same, Lawful};
 ghost use Rattle.chooser.specs.Steps.{NewVariable, Add, Ask};
