@@ -1,13 +1,20 @@
 -- One literal more of a clause that is looked at.
-use Rattle.std.proofs.Common.{◌≡◌, ℕ, Bool, true, false, ◌||◌, List, [], ◌∷◌, ◌++◌, sym, ap, ◌∙◌, ⊎_elim}
+use Rattle.std.proofs.Common.{◌≡◌, ℕ, Bool, true, false, ◌||◌, List, [], ◌∷◌, ◌++◌, Some, None, Option, sym, ap, ◌∙◌, ⊎_elim}
 use mathlib.Core.Bool.{or-false}
 use Rattle.std.proofs.lemmas.Bool.{both_ways, or_cases, or_left}
+use Rattle.std.specs.Option.{option_or}
 use Rattle.chooser.specs.Ways.{lit, some, written}
 use Rattle.rows.proofs.Lits.{some_append}
 use Rattle.backtrack.specs.Values.{Opened, Off}
 use Rattle.backtrack.specs.Told.{Told}
 use Rattle.backtrack.specs.declared.clause.Status.{Status}
 use Rattle.backtrack.specs.declared.clause.Status.TheVariants.{Clash, Forced, Open, Met}
+
+-- the status of a clause by its first open literal, and that again once another is open
+abbrev pub status : Option ℕ → Option ℕ → Status
+status None again = Clash
+status (Some l) None = Forced l
+status (Some l) (Some k) = Open l
 
 module _ (values before : List ℕ) (l : ℕ) where
   one_more : (f : ℕ → Bool) → some f (before ++ (l ∷ [])) ≡ (some f before || f l)
@@ -29,9 +36,11 @@ module _ (values before : List ℕ) (l : ℕ) where
   told_off (Open k) off h = h
   told_off Met off h = still_met (lit (written values)) h
 
-  -- the first open literal, and a second one
-  pub told_first : Opened values l → Told values before Clash → Told values (before ++ (l ∷ [])) (Forced l)
-  told_first open-literal h = (open-literal, λ p agree e. last_on (lit p) (h p agree) e)
+  -- an open literal: the first, the second, or a later one
+  pub told_open : (first again : Option ℕ) → Opened values l → Told values before (status first again) → Told values (before ++ (l ∷ [])) (status (option_or first (Some l)) first)
+  told_open None again open-literal h = (open-literal, λ p agree e. last_on (lit p) (h p agree) e)
+  told_open (Some k) None open-literal h = h.0
+  told_open (Some k) (Some j) open-literal h = h
 
   pub told_met : Told values before Met → Told values (before ++ (l ∷ [])) Met
   told_met h = still_met (lit (written values)) h

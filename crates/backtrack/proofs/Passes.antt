@@ -33,10 +33,6 @@ allowed_clauses row assumptions p =
     ∙ ap (λ b. b && list_all (some f) (clauses_of row)) (sym (singles_met f assumptions))
     ∙ sym (list_all-append (some f) (singles assumptions) (clauses_of row))
 
-pub or_none : (o : Option ℕ) → o ≡ option_or o None
-or_none None = refl
-or_none (Some l) = refl
-
 module _ (X : (ℕ → Bool) → Bool) where
   pub pass_start : (clauses : List (List ℕ)) (values : List ℕ) (start : List Step) → ((p : ℕ → Bool) → X p ≡ met clauses p) → Trail X values start → Passing X clauses start values start None
   pass_start clauses values start same t =
@@ -51,9 +47,8 @@ module _ (X : (ℕ → Bool) → Bool) where
     pass_clash clash =
         record { goes = now.goes; more = now.more; grown = now.grown; dead = dead_clash X values steps now.goes clause (λ p x. (parts p x).0) clash }
 
-    pub pass_met : some (lit (written values)) clause ≡ true → Passing X left start values steps (option_or o None)
+    pub pass_met : some (lit (written values)) clause ≡ true → Passing X left start values steps o
     pass_met on =
-        subst (Passing X left start values steps) (or_none o)
         record { goes = now.goes; more = now.more; grown = now.grown; owed = λ p x. (parts p x).1; calm = λ e. calm_met o (now.calm e) }
       where
         calm_met : (q : Option ℕ) → Calm X (clause ∷ left) values q → Calm X left values q
@@ -69,9 +64,8 @@ module _ (X : (ℕ → Bool) → Bool) where
         calm_open (Some k) was = was
 
     pub pass_push : (l : ℕ) → Opened values l → ((p : ℕ → Bool) → Agrees p values → some (lit p) clause ≡ true → lit p l ≡ true)
-        → Passing X left start (set values (l / 2) (bit l)) (steps ++ (Follows l ∷ [])) (option_or o None)
+        → Passing X left start (set values (l / 2) (bit l)) (steps ++ (Follows l ∷ [])) o
     pass_push l h forced =
-        subst (Passing X left start (set values (l / 2) (bit l)) (steps ++ (Follows l ∷ []))) (or_none o)
         record {
           goes = trail_push X values steps now.goes (Follows l) h (leads_clause X values steps now.goes clause l (λ p x. (parts p x).0) forced);
           more = now.more ++ (Follows l ∷ []);

@@ -2,8 +2,7 @@
 use Rattle.std.proofs.Common.{◌≡◌, ℕ, zero, suc, ◌+◌, ◌/◌, ◌%◌, ◌<◌, ◌≤◌, true, false, cond, not, eqb, List, [], ◌∷◌, length, get_or, set, ◌∙◌, ⊎_elim, arith, get_or-set_same}
 use Rattle.std.proofs.lemmas.Bool.{cases_eq, cond-true, cond-false, eq-eqb, ne_eqb, not_from_false}
 use Rattle.chooser.specs.Ways.{lit, written}
-use Rattle.rows.proofs.Lits.{lit_same}
-use Rattle.backtrack.specs.Values.{opens, Off, bit}
+use Rattle.backtrack.specs.Values.{opens, bit}
 
 one : (x : ℕ) → cond (eqb x 2) 1 0 ≤ 1
 one x = elim (eqb x 2) as (λ b. cond {A = ℕ} b 1 0 ≤ 1) [ true ↦ omega arith | false ↦ omega arith ]
@@ -32,6 +31,3 @@ bit_true vs l lt =
     (λ z. cond-true (eqb (l % 2) 0) (p (l / 2)) (not (p (l / 2))) (eq-eqb (l % 2) 0 z) ∙ eq-eqb (get_or (set vs (l / 2) (bit l)) (l / 2) 0) 1 (omega arith))
     (λ nz. cond-false (eqb (l % 2) 0) (p (l / 2)) (not (p (l / 2))) (ne_eqb (l % 2) 0 nz) ∙ not_from_false (p (l / 2)) (ne_eqb (get_or (set vs (l / 2) (bit l)) (l / 2) 0) 1 (λ h. omega arith)))
     (cases_eq (l % 2) 0)
-
-pub off_from : (vs : List ℕ) (l : ℕ) → l / 2 < length vs → (get_or vs (l / 2) 0 ≡ 2 → ⊥) → lit (written vs) l ≡ false → Off vs l
-off_from vs l lt ne e p agree = lit_same p (written vs) l (agree (l / 2) lt ne) ∙ e

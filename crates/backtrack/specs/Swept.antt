@@ -1,7 +1,6 @@
 -- What a pass over clauses comes to. X tells which ways are allowed.
 use Rattle.std.specs.Prelude.{◌≡◌, ℕ, Bool, true, List, [], ◌∷◌, ◌++◌, Ok, Err, Result, Some, None, Option, map}
 use Rattle.std.specs.List.{list_all}
-use Rattle.std.specs.Option.{option_or}
 use Rattle.chooser.specs.Ways.{lit, some, written}
 use Rattle.backtrack.specs.Values.{Opened}
 use Rattle.backtrack.specs.Trail.{Trail, Dead, lits}
@@ -38,8 +37,8 @@ pub record Clashed (X : (ℕ → Bool) → Bool) (start : List Step) (values : L
   pub grown : steps ≡ start ++ more
   pub dead : Dead X (lits steps)
 
-abbrev pub Visited : ((ℕ → Bool) → Bool) → List (List ℕ) → List Step → List ℕ → List Step → Option ℕ → Result (Option ℕ) Clash → Type 0
-Visited X left start values steps open-literal (Ok o) = Passing X left start values steps (option_or open-literal o)
+abbrev pub Visited : {U : Type 0} → ((ℕ → Bool) → Bool) → List (List ℕ) → List Step → List ℕ → List Step → Option ℕ → Result U Clash → Type 0
+Visited X left start values steps open-literal (Ok u) = Passing X left start values steps open-literal
 Visited X left start values steps open-literal (Err e) = Clashed X start values steps
 
 abbrev pub Passed : ((ℕ → Bool) → Bool) → List Step → List ℕ → List Step → Pass → Type 0

@@ -35,17 +35,22 @@ pub(crate) fn inspect(clause: &[u16], values: &[u8]) -> Status
     requires { allotted (length values.now) clause.now ≡ true }
     ensures { Told values.now clause.now result }
 {
-    let mut status = Status::Clash;
+    // The first open literal, and the same again once another is open: no branch asks how many there are.
+    let mut first = None;
+    let mut again = None;
     for l in clause {
         match truth(values, *l) {
             Some(true) => return Status::Met,
             Some(false) => {}
-            None => status = match status {
-                Status::Clash => Status::Forced(*l),
-                Status::Forced(first) => Status::Open(first),
-                more => more,
-            },
+            None => {
+                again = first;
+                first = first.or(Some(*l));
+            }
         }
     }
-    status
+    match (first, again) {
+        (None, _) => Status::Clash,
+        (Some(l), None) => Status::Forced(l),
+        (Some(l), Some(_)) => Status::Open(l),
+    }
 }

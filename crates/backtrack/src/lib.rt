@@ -2,7 +2,7 @@
 // It is a loop over a trail of literals, and needs no stack that grows with the variables.
 #![tactic(auto)]
 
-ghost use Rattle.std.specs.Prelude.{◌≡◌, ℕ, ◌+◌, ◌≤◌, Bool, true, List, ◌∷◌, Option, length, vec_capacity};
+ghost use Rattle.std.specs.Prelude.{◌≡◌, ℕ, ◌+◌, ◌≤◌, Bool, true, List, ◌∷◌, length, vec_capacity};
 ghost use Rattle.chooser.specs.Ways.{allotted};
 ghost use Rattle.rows.specs.Rows.{inside};
 ghost use Rattle.backtrack.specs.Solved.{allowed, Solved};
@@ -41,22 +41,26 @@ pub(crate) enum Pass {
     Met,
 }
 
-// Looks at a clause, and puts its literal on the trail where it leaves one alone. Returns a literal that it leaves open.
-fn visit(clause: &[u16], values: &mut [u8], trail: &mut Vec<Step>) -> Result<Option<u16>, Clash>
+// Looks at a clause, and puts its literal on the trail where it leaves one alone. `open` is the first literal that a clause left
+// open. It is written to in place, since as a result it would be tested once more for each clause.
+fn visit(
+    clause: &[u16],
+    values: &mut [u8],
+    trail: &mut Vec<Step>,
+    open: &mut Option<u16>,
+) -> Result<(), Clash>
     requires named { allotted (length values.old) clause.now ≡ true }
     requires room { opens values.old + length trail.old.items ≤ vec_capacity trail.old }
-    ensures visited { (X : (ℕ → Bool) → Bool) (left : List (List ℕ)) (start : List Step) (o : Option ℕ) → Passing X (clause.now ∷ left) start values.old trail.old.items o → Visited X left start values.new trail.new.items o result }
+    ensures visited { (X : (ℕ → Bool) → Bool) (left : List (List ℕ)) (start : List Step) → Passing X (clause.now ∷ left) start values.old trail.old.items «open».old → Visited X left start values.new trail.new.items «open».new result }
     ensures capacity { vec_capacity trail.new ≡ vec_capacity trail.old }
 {
     match inspect(clause, values) {
-        Status::Clash => Err(Clash),
-        Status::Forced(l) => {
-            push(values, trail, Step::Follows(l));
-            Ok(None)
-        }
-        Status::Open(l) => Ok(Some(l)),
-        Status::Met => Ok(None),
+        Status::Clash => return Err(Clash),
+        Status::Forced(l) => push(values, trail, Step::Follows(l)),
+        Status::Open(l) => *open = open.or(Some(l)),
+        Status::Met => {}
     }
+    Ok(())
 }
 
 // Goes over the assumptions, each a clause of one literal, and the clauses once.
@@ -76,10 +80,10 @@ fn sweep(
     let from = trail.len();
     let mut open = None;
     for l in assumptions {
-        open = open.or(visit(&[*l], values, trail)?);
+        visit(&[*l], values, trail, &mut open)?;
     }
     for clause in ClauseIter::new(row) {
-        open = open.or(visit(clause, values, trail)?);
+        visit(clause, values, trail, &mut open)?;
     }
     if trail.len() > from {
         return Ok(Pass::Moved);
@@ -92,6 +96,8 @@ fn sweep(
 
 // Writes into `values` a way that meets every clause of the row and every assumption, or answers that there is none.
 // `trail` is working memory, with room for a step for each variable.
+// It is not inlined into its caller, beside whose variables those of its loops would not stay in registers.
+#[inline(never)]
 pub fn solve(row: &[u16], assumptions: &[u16], values: &mut [u8], trail: &mut Vec<Step>) -> Answer
     requires room { length values.old ≤ vec_capacity trail.old }
     requires row { inside (length values.old) 0 row.now ≡ true }

@@ -1,7 +1,7 @@
 // Steps put on the trail and taken back.
 // Kept as it is: `values` and `trail` are passed side by side. A struct of them would hold two `&mut`, beside which no ghost field
 // may stand, so each method would still say of its two fields what these functions say of their two parameters.
-ghost use Rattle.std.specs.Prelude.{◌≡◌, ℕ, ◌+◌, ◌*◌, ◌/◌, ◌<◌, ◌≤◌, Bool, true, [], ◌∷◌, ◌++◌, length, vec_len, vec_capacity, if◌then◌else◌, nat_eq, slice_index, slice_set};
+ghost use Rattle.std.specs.Prelude.{◌≡◌, ℕ, ◌+◌, ◌/◌, ◌<◌, Bool, true, [], ◌∷◌, ◌++◌, length, vec_len, vec_capacity, if◌then◌else◌, nat_eq, slice_index, slice_set};
 ghost use Rattle.chooser.specs.Ways.{allotted};
 ghost use Rattle.backtrack.specs.Values.{bit};
 ghost use Rattle.backtrack.specs.Trail.{lit_of, lits, Trail, Dead, TakenBack};

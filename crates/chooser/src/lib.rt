@@ -2,8 +2,8 @@
 // Literal 2i says that variable i is 1, literal 2i + 1 that it is 0.
 #![tactic(auto)]
 
-ghost use Rattle.std.specs.Prelude.{◌≡◌, ℕ, ◌+◌};
-ghost use Rattle.chooser.specs.Faults.{fault_number};
+ghost use Rattle.std.specs.Prelude.{◌≡◌, ℕ, Some};
+ghost use Rattle.chooser.specs.Faults.{fault_number, fault_text, make_fault_text};
 ghost use Rattle.chooser.specs.Meaning.{Meaning, Same, Lawful};
 ghost use Rattle.chooser.specs.Steps.{NewVariable, Add, Ask};
 ghost use Rattle.chooser.specs.Claims.{EitherValue, ToldApart};
@@ -50,6 +50,8 @@ impl Fault {
 }
 
 impl fmt::Display for Fault {
+    ghost output = { λ e. Some (fault_text e) };
+
     fn fmt<W: fmt::Write>(&self, f: &mut fmt::Formatter<W>) -> fmt::Result {
         f.write_str(match self {
             Fault::NoVariable => "the formula has more variables than the chooser",
@@ -63,6 +65,8 @@ impl fmt::Display for Fault {
 impl Error for Fault {}
 
 impl fmt::Display for MakeFault {
+    ghost output = { λ e. Some (make_fault_text e) };
+
     fn fmt<W: fmt::Write>(&self, f: &mut fmt::Formatter<W>) -> fmt::Result {
         f.write_str(match self {
             MakeFault::TooManyEntries => "a chooser of too many entries",

@@ -3,20 +3,16 @@
 // Usage: chooser_bench plain|learning FILE ..
 #![tactic(auto)]
 
-ghost use Rattle.std.specs.Prelude.{◌≡◌, ℕ, vec_capacity};
+ghost use Rattle.std.specs.Prelude.{◌≡◌, vec_capacity};
+ghost use Rattle.rows.specs.declared.store.TheConstants.{MOST_VARIABLES};
 
 use chooser::{Answer, Chooser, Fault};
 use learning::Learning;
 use plain::Plain;
-use rows::MOST_VARIABLES;
+use rows::{MOST_ENTRIES, MOST_VARIABLES};
 use std::alloc::{AllocError, Global};
 use std::time::Instant;
 use std::{env, fmt, fs};
-
-const ENTRIES: usize = 65535;
-
-// The most literals of a line; those behind them are dropped.
-const MOST_LITERALS: usize = 4096;
 
 // The choosers that can be named.
 #[derive(Clone, Copy)]
@@ -63,19 +59,20 @@ impl fmt::Display for Score {
 #[derive(Drop)]
 struct Line {
     call: u8,
+    // At most as many as there can be variables; those behind them are dropped.
     literals: Vec<u16>,
     // Kept as it is: a number is read byte by byte, and what was read of it is carried from one byte to the next.
     number: u32,
     minus: bool,
     digits: bool,
-    ghost room: { vec_capacity literals ≡ 4096 },
+    ghost room: { vec_capacity literals ≡ MOST_VARIABLES },
 }
 
 impl Line {
     fn new(heap: Global) -> Result<Line, AllocError> {
         Ok(Line {
             call: b'c',
-            literals: Vec::with_capacity(heap, MOST_LITERALS)?,
+            literals: Vec::with_capacity(heap, MOST_VARIABLES)?,
             number: 0,
             minus: false,
             digits: false,
@@ -84,8 +81,8 @@ impl Line {
 
     // Takes the number that was read for a literal, if it names one and there is room.
     fn push(&mut self) {
-        let room = self.literals.len() < MOST_LITERALS;
-        if self.digits && room && self.number > 0 && self.number <= 4096 {
+        let room = self.literals.len() < MOST_VARIABLES;
+        if self.digits && room && self.number > 0 && self.number <= MOST_VARIABLES as u32 {
             let v = (self.number - 1) as u16;
             self.literals
                 .push_reserved(if self.minus { 2 * v + 1 } else { 2 * v });
@@ -141,7 +138,7 @@ fn ask<C: Chooser>(
 
 // Runs the call of each line that a newline ends.
 fn play<C: Chooser>(heap: Global, chooser: &mut C, text: &[u8]) -> Result<Score, AllocError> {
-    let mut values = vec![in heap; 0u8; MOST_VARIABLES as usize]?;
+    let mut values = vec![in heap; 0u8; MOST_VARIABLES]?;
     let mut line = Line::new(heap)?;
     let mut score = Score::default();
     for b in text {
@@ -187,11 +184,11 @@ fn run(rt: &HostRuntime) -> anyhow::Result<()> {
                 let text = fs::read(rt, path)?;
                 match kind {
                     Kind::Plain => {
-                        let mut chooser = Plain::new(rt.alloc(), ENTRIES)?;
+                        let mut chooser = Plain::new(rt.alloc(), MOST_ENTRIES)?;
                         report(rt, &mut chooser, path, text.as_slice())?;
                     }
                     Kind::Learning => {
-                        let mut chooser = Learning::new(rt.alloc(), ENTRIES)?;
+                        let mut chooser = Learning::new(rt.alloc(), MOST_ENTRIES)?;
                         report(rt, &mut chooser, path, text.as_slice())?;
                     }
                 }

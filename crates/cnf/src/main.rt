@@ -8,11 +8,9 @@ use decide::decide;
 use dimacs::{Formula, read, true_literal};
 use learning::Learning;
 use plain::Plain;
+use rows::MOST_ENTRIES;
 use std::io::Read;
 use std::{env, fs, io};
-
-// The entries of the chooser, which are the most that it can have.
-const ENTRIES: usize = 65535;
 
 // How many literals a line of the answer has: with five digits and a minus each it has at most 74 characters.
 const LINE: u16 = 10;
@@ -52,8 +50,8 @@ fn answer<C: Chooser>(rt: &HostRuntime, chooser: &mut C, formula: &Formula) -> a
 
 fn ask(rt: &HostRuntime, which: Which, formula: &Formula) -> anyhow::Result<()> {
     match which {
-        Which::Plain => answer(rt, &mut Plain::new(rt.alloc(), ENTRIES)?, formula),
-        Which::Learning => answer(rt, &mut Learning::new(rt.alloc(), ENTRIES)?, formula),
+        Which::Plain => answer(rt, &mut Plain::new(rt.alloc(), MOST_ENTRIES)?, formula),
+        Which::Learning => answer(rt, &mut Learning::new(rt.alloc(), MOST_ENTRIES)?, formula),
     }
 }
 

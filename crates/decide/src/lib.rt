@@ -1,7 +1,7 @@
 // A formula put to any chooser: proved once, from the chooser's meaning alone.
 #![tactic(auto)]
 
-ghost use Rattle.std.specs.Prelude.{◌≡◌, ◌+◌, ◌≤◌, true, length};
+ghost use Rattle.std.specs.Prelude.{◌≡◌, ◌≤◌, true, length};
 ghost use Rattle.rows.specs.Rows.{inside};
 ghost use Rattle.decide.specs.Decided.{Taken, Narrowed, Accepted, Decided};
 

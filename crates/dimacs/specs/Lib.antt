@@ -1,4 +1,5 @@
 pub mod Step
 pub mod Feed
 pub mod Read
+pub mod Shown
 pub mod Spelled

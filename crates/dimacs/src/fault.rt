@@ -1,4 +1,5 @@
-ghost use Rattle.std.specs.Prelude.{◌≡◌};
+ghost use Rattle.std.specs.Prelude.{◌≡◌, Some};
+ghost use Rattle.dimacs.specs.Shown.{kind_text, fault_text, error_text};
 ghost use Rattle.dimacs.specs.declared.fault.ReadError.TheVariants.{NoMemory};
 
 use std::alloc::AllocError;
@@ -38,6 +39,8 @@ pub enum ReadError {
 }
 
 impl fmt::Display for Kind {
+    ghost output = { λ k. Some (kind_text k) };
+
     fn fmt<W: fmt::Write>(&self, f: &mut fmt::Formatter<W>) -> fmt::Result {
         f.write_str(match self {
             Kind::NoHeader => "a header `p cnf VARIABLES CLAUSES` is missing",
@@ -54,12 +57,16 @@ impl fmt::Display for Kind {
 }
 
 impl fmt::Display for Fault {
+    ghost output = { λ f. Some (fault_text f) };
+
     fn fmt<W: fmt::Write>(&self, f: &mut fmt::Formatter<W>) -> fmt::Result {
         write!(f, "line {}: {}", self.line, self.kind)
     }
 }
 
 impl fmt::Display for ReadError {
+    ghost output = { λ e. Some (error_text e) };
+
     fn fmt<W: fmt::Write>(&self, f: &mut fmt::Formatter<W>) -> fmt::Result {
         match self {
             ReadError::NoMemory => f.write_str("no memory"),

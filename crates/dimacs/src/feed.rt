@@ -6,7 +6,7 @@ ghost use Rattle.dimacs.specs.Read.{reading, Put, Fed, Finished};
 use crate::fault::Kind;
 use crate::formula::Formula;
 use crate::reader::Reader;
-use crate::step::{Event, Mode, Stage, State, advance};
+use crate::step::{Event, MOST_VARIABLES, Mode, Stage, State, advance};
 use rows::{MOST_ENTRIES, push_clause};
 use std::alloc::{AllocError, Global};
 
@@ -71,7 +71,7 @@ impl Reader {
             return Err(Kind::TooFewClauses);
         }
         Ok(Formula {
-            variables: header.variables.min(32768) as u16,
+            variables: header.variables.min(MOST_VARIABLES) as u16,
             row: self.row,
         })
     }

@@ -1,4 +1,5 @@
 ghost use Rattle.std.specs.Prelude.{◌≤◌, vec_len, vec_capacity};
+ghost use Rattle.rows.specs.declared.store.TheConstants.{MOST_ENTRIES};
 
 use crate::step::State;
 
@@ -9,8 +10,8 @@ pub(crate) struct Reader {
     // The literals of the clause that is not ended yet, and the clauses before it.
     pub(crate) clause: Vec<u16>,
     pub(crate) row: Vec<u16>,
-    ghost short: { vec_len clause ≤ 65535 },
-    ghost reserved: { 65535 ≤ vec_capacity clause },
-    ghost fits: { vec_len row ≤ 65535 },
-    ghost held: { 65535 ≤ vec_capacity row },
+    ghost short: { vec_len clause ≤ MOST_ENTRIES },
+    ghost reserved: { MOST_ENTRIES ≤ vec_capacity clause },
+    ghost fits: { vec_len row ≤ MOST_ENTRIES },
+    ghost held: { MOST_ENTRIES ≤ vec_capacity row },
 }

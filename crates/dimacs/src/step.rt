@@ -72,7 +72,7 @@ pub(crate) struct Step {
 }
 
 // The literals of more variables do not fit in 16 bits.
-const MOST_VARIABLES: u32 = 32768;
+pub(crate) const MOST_VARIABLES: u32 = 32768;
 
 fn is_blank(b: u8) -> bool
     ensures { result ≡ blank b }

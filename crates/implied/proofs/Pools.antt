@@ -1,9 +1,8 @@
 -- A pool when a clause is put behind the others, and what is known of the allowed ways when they get fewer.
-use Rattle.std.proofs.Common.{◌≡◌, ℕ, zero, suc, ◌+◌, ◌<◌, ◌≤◌, Bool, true, false, List, [], ◌∷◌, ◌++◌, length, get_or, take, drop, set, map, replicate, sym, refl, ap, ◌∙◌, subst, ⊎_elim, arith, get_or-set_other, length-append}
+use Rattle.std.proofs.Common.{◌≡◌, ℕ, zero, suc, ◌+◌, ◌<◌, ◌≤◌, Bool, true, false, List, [], ◌∷◌, ◌++◌, length, get_or, take, drop, map, replicate, sym, refl, ap, ◌∙◌, subst, ⊎_elim, arith, length-append}
 use Rattle.std.proofs.lemmas.Bool.{both_ways, cases_eq}
 use Rattle.std.proofs.lemmas.List.{get_or_append_left, take-append-le, drop-append-le, take_all, map-append, length-drop}
 use Rattle.std.proofs.Math.Seq.{get_or-append_seam, drop-append-add}
-use Rattle.chooser.specs.Ways.{lit, some}
 use Rattle.implied.specs.Lying.{clause_at, Lying}
 use Rattle.implied.specs.Implied.{Met, Off}
 
@@ -63,13 +62,6 @@ off_one (suc n) (suc m) = off_one n m
 
 pub off_none : (X : (ℕ → Bool) → Bool) (n : ℕ) (off : List Bool) → off ≡ replicate n false → Off X off
 off_none X n off none m e = absurd (both_ways (get_or off m false) (ap (λ z. get_or z m false) none ∙ off_one n m) e)
-
-pub met_more : (X : (ℕ → Bool) → Bool) (clauses : List (List ℕ)) (clause : List ℕ) → Met X clauses → ((p : ℕ → Bool) → X p ≡ true → some (lit p) clause ≡ true) → Met X (clauses ++ clause ∷ [])
-met_more X clauses clause h new = each_more (λ c. (p : ℕ → Bool) → X p ≡ true → some (lit p) c ≡ true) clauses clause [] h new
-
-pub off_set : (X : (ℕ → Bool) → Bool) (off : List Bool) (t : ℕ) → Off X off → ((p : ℕ → Bool) → X p ≡ true → lit p t ≡ false) → Off X (set off t true)
-off_set X off t h new m e p x =
-    ⊎_elim (λ s. subst (λ k. lit p k ≡ false) (sym s) (new p x)) (λ ne. h m (sym (get_or-set_other off t m true false ne) ∙ e) p x) (cases_eq m t)
 
 -- what is known of the ways that X allows is known of fewer ways too
 module _ (X Y : (ℕ → Bool) → Bool) (less : (p : ℕ → Bool) → Y p ≡ true → X p ≡ true) where

@@ -1,10 +1,10 @@
-ghost use Rattle.std.specs.Prelude.{◌≡◌, ℕ, ◌+◌, ◌^◌, ◌<◌, ◌≤◌, Bool, true, false, [], ◌∷◌, ◌++◌, length, IfOk, MatchOption, is_ok, if◌then◌else◌};
+ghost use Rattle.std.specs.Prelude.{◌≡◌, ℕ, Bool, true, false, [], ◌∷◌, ◌++◌, length, IfOk, MatchOption, is_ok, if◌then◌else◌, ◌⊎◌};
 ghost use Rattle.chooser.specs.Ways.{lit, some};
 ghost use Rattle.implied.specs.Implied.{allowed, Met, Off};
 
 use crate::pool::Pool;
 use chooser::Fault;
-use rows::{ClauseStore, turned};
+use rows::{ClauseStore, MOST_LITERALS, turned};
 use std::alloc::{AllocError, Global};
 use std::mem::swap;
 
@@ -37,7 +37,7 @@ impl Facts {
         Ok(Facts {
             store,
             pool: Pool::new(heap, numbers, clauses)?,
-            off: vec![in heap; false; 8192]?,
+            off: vec![in heap; false; MOST_LITERALS]?,
         })
     }
 
@@ -70,11 +70,18 @@ impl Facts {
             return;
         };
         for m in clause {
-            if *m != l && !self.is_off(*m) {
+            if !self.is_off_or(*m, l) {
                 return;
             }
         }
         self.mark_true(l);
+    }
+
+    // Returns whether the literal `m` is off, or `l` itself.
+    fn is_off_or(&self, m: u16, l: u16) -> bool
+        ensures { result ≡ true → (p : ℕ → Bool) → allowed self.now.store.row.items p ≡ true → (lit p m ≡ false) ⊎ (m ≡ l) }
+    {
+        m == l || self.is_off(m)
     }
 
     // Puts a clause into the pool that every allowed way meets, and returns its number; None where there is no room.

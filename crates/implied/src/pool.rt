@@ -70,9 +70,9 @@ impl Pool {
         let start = self.numbers.len();
         if c >= self.starts.capacity()
             || self.numbers.capacity() - start <= clause.len()
-            || clause.len() > 65535
-            || start > 4294967295
-            || c > 4294967295
+            || clause.len() > u16::MAX as usize
+            || start > u32::MAX as usize
+            || c > u32::MAX as usize
         {
             return None;
         }

@@ -26,7 +26,7 @@ impl Learning {
 
     // Makes a chooser of so many entries that has no variable and allows every way.
     pub fn new(heap: Global, entries: usize) -> Result<Learning, MakeFault>
-        ensures { Made learning_means 4096 entries result }
+        ensures { Made learning_means MOST_VARIABLES entries result }
     {
         let store = ClauseStore::new(heap, entries)?;
         Ok(Learning {
@@ -39,13 +39,14 @@ impl Learning {
 impl Chooser for Learning {
     ghost use Rattle.chooser.specs.Steps.{Add};
     ghost use Rattle.rows.specs.Store.{Spent};
+    ghost use Rattle.rows.specs.declared.store.TheConstants.{MOST_VARIABLES};
     ghost use Rattle.learning.specs.Means.{learning_means, learning_laws};
 
-    const MAX_VARIABLES: u16 = MOST_VARIABLES;
+    const MAX_VARIABLES: u16 = MOST_VARIABLES as u16;
 
     ghost meaning = { learning_means };
 
-    ghost most = { 4096 };
+    ghost most = { MOST_VARIABLES };
 
     ghost laws = { learning_laws };
 

@@ -5,6 +5,7 @@ ghost use Rattle.chooser.specs.Steps.{Add};
 ghost use Rattle.chooser.specs.Made.{Made};
 ghost use Rattle.rows.specs.Store.{Spent};
 ghost use Rattle.plain.specs.Means.{plain_means, plain_laws};
+ghost use Rattle.rows.specs.declared.store.TheConstants.{MOST_VARIABLES};
 
 use backtrack::solve;
 use chooser::{Answer, Chooser, Fault, MakeFault};
@@ -18,21 +19,21 @@ pub use plain::Plain;
 impl Plain {
     // Makes a chooser of so many entries that has no variable and allows every way.
     pub fn new(heap: Global, entries: usize) -> Result<Plain, MakeFault>
-        ensures { Made plain_means 4096 entries result }
+        ensures { Made plain_means MOST_VARIABLES entries result }
     {
         Ok(Plain {
             clauses: ClauseStore::new(heap, entries)?,
-            trail: Vec::with_capacity(heap, MOST_VARIABLES as usize)?,
+            trail: Vec::with_capacity(heap, MOST_VARIABLES)?,
         })
     }
 }
 
 impl Chooser for Plain {
-    const MAX_VARIABLES: u16 = MOST_VARIABLES;
+    const MAX_VARIABLES: u16 = MOST_VARIABLES as u16;
 
     ghost meaning = { plain_means };
 
-    ghost most = { 4096 };
+    ghost most = { MOST_VARIABLES };
 
     ghost laws = { plain_laws };
 

@@ -1,4 +1,5 @@
 ghost use Rattle.std.specs.Prelude.{◌≤◌, vec_capacity};
+ghost use Rattle.rows.specs.declared.store.TheConstants.{MOST_VARIABLES};
 
 use backtrack::Step;
 use rows::ClauseStore;
@@ -10,5 +11,5 @@ pub struct Plain {
     pub(crate) clauses: ClauseStore,
     // Working memory of the search.
     pub(crate) trail: Vec<Step>,
-    ghost roomy: { 4096 ≤ vec_capacity trail },
+    ghost roomy: { MOST_VARIABLES ≤ vec_capacity trail },
 }

@@ -1,16 +1,13 @@
 -- What each call of a chooser over a row shows of its meaning.
 use Rattle.std.proofs.Common.{◌≡◌, ℕ, ◌+◌, ◌≤◌, true, List, ◌∷◌, ◌++◌, length, refl, arith, length-append, vec_items}
 use Rattle.chooser.specs.Ways.{lit, allotted}
-use Rattle.chooser.specs.Meaning.{Meaning, Same, Local, Lawful}
+use Rattle.chooser.specs.Meaning.{Local, Lawful}
 use Rattle.chooser.specs.Steps.{Added}
 use Rattle.rows.specs.Rows.{inside}
 use Rattle.rows.specs.Meant.{meant}
 use Rattle.rows.specs.Store.{store_means}
 use Rattle.rows.proofs.Rows.{holds_same, holds_append}
 use Rattle.rows.proofs.Lits.{lit_below}
-
-pub same_self : (s : Meaning) → Same s s
-same_self s = record { counts = refl; rooms = refl; leaves = refl; allows = λ p. refl }
 
 module _ (row : List ℕ) (size most v : ℕ) where
   pub meant_local : inside v 0 row ≡ true → Local (meant row size most v)
@@ -28,9 +25,6 @@ module _ (row : List ℕ) (size most v : ℕ) where
           spends = omega (arith, length-append row (length clause ∷ clause));
           allows = λ p. holds_append (lit p) v clause row true 0 s;
         }
-
-    pub meant_spent : (meant (row ++ (length clause ∷ clause)) size most v).left + (length clause + 1) ≡ (meant row size most v).left
-    meant_spent = omega (arith, length-append row (length clause ∷ clause))
 
 -- the laws of what a store of clauses means
 pub store_laws : Lawful store_means 4096

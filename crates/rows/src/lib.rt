@@ -10,7 +10,7 @@ mod clause_iter;
 mod store;
 
 pub use clause_iter::ClauseIter;
-pub use store::{ClauseStore, MOST_ENTRIES, MOST_VARIABLES};
+pub use store::{ClauseStore, MOST_ENTRIES, MOST_LITERALS, MOST_VARIABLES};
 
 // Returns the other literal of the variable.
 pub fn turned(l: u16) -> u16

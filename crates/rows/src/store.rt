@@ -1,14 +1,20 @@
-ghost use Rattle.std.specs.Prelude.{◌≡◌, ℕ, ◌+◌, ◌≤◌, true, ◌∷◌, ◌++◌, length, vec_len, vec_capacity, is_ok, if◌then◌else◌};
+ghost use Rattle.std.specs.Prelude.{◌≡◌, ◌+◌, ◌≤◌, true, ◌∷◌, ◌++◌, length, vec_len, vec_capacity, is_ok, if◌then◌else◌};
 ghost use Rattle.rows.specs.Rows.{inside};
+ghost use Rattle.rows.specs.declared.store.TheConstants.{MOST_ENTRIES, MOST_VARIABLES};
 
 use crate::{are_allotted, push_clause};
 use chooser::{Fault, MakeFault};
 use std::alloc::Global;
 
 // The most entries that a chooser may be made with, and the most variables that it can have.
+// Kept as it is: specs/ has these numbers written out, here and in the crates above. It is to be read without the code, and a name
+// that it took from here would be no plainer.
 pub const MOST_ENTRIES: usize = 65535;
 
-pub const MOST_VARIABLES: u16 = 4096;
+pub const MOST_VARIABLES: usize = 4096;
+
+// Each variable has two literals: they are the numbers below this one.
+pub const MOST_LITERALS: usize = 2 * MOST_VARIABLES;
 
 // What a chooser was given: its clauses, and how many variables are allotted. Its memory is reserved once, when it is made: two
 // bytes for each entry.
@@ -21,8 +27,8 @@ pub struct ClauseStore {
     count: u16,
     pub ghost fits: { vec_len row ≤ entries },
     pub ghost reserved: { entries ≤ vec_capacity row },
-    pub ghost small: { entries ≤ 65535 },
-    pub ghost few: { count ≤ 4096 },
+    pub ghost small: { entries ≤ MOST_ENTRIES },
+    pub ghost few: { count ≤ MOST_VARIABLES },
     pub ghost whole: { inside count 0 row.items ≡ true },
 }
 
@@ -33,7 +39,7 @@ impl ClauseStore {
 
     // Makes a store of so many entries that has no variable and allows every way.
     pub fn new(heap: Global, entries: usize) -> Result<ClauseStore, MakeFault>
-        ensures { Made store_means 4096 entries result }
+        ensures { Made store_means MOST_VARIABLES entries result }
     {
         if entries > MOST_ENTRIES {
             return Err(MakeFault::TooManyEntries);
@@ -57,7 +63,7 @@ impl ClauseStore {
     pub fn variables_left(&self) -> u16
         ensures { result ≡ (store_means self.now).room }
     {
-        MOST_VARIABLES - self.count
+        MOST_VARIABLES as u16 - self.count
     }
 
     // Returns how many entries are left.
@@ -72,7 +78,7 @@ impl ClauseStore {
         ensures grows { NewVariable (store_means self.old) (store_means self.new) result }
         ensures row { self.new.row.items ≡ self.old.row.items }
     {
-        if self.count >= MOST_VARIABLES {
+        if self.count as usize >= MOST_VARIABLES {
             return Err(Fault::NoVariable);
         }
         let variable = self.count;

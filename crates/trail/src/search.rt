@@ -6,6 +6,7 @@ use crate::step::{Reason, Value};
 use crate::trail::Trail;
 use chooser::Fault;
 use implied::Facts;
+use rows::MOST_VARIABLES;
 use std::alloc::{AllocError, Global};
 
 // What is known of the allowed ways, and a trail whose literals follow from that and from its decisions.
@@ -37,7 +38,7 @@ impl Search {
         ensures { Pushed self.old self.new l reason result }
     {
         let v = (l / 2) as usize;
-        if v >= 4096 {
+        if v >= MOST_VARIABLES {
             return false;
         }
         let value = self.trail.values[v];
@@ -67,6 +68,7 @@ impl Search {
     pub fn new_variable(&mut self) -> Result<u16, Fault>
         ensures grows { NewVariable (store_means self.old.facts.store) (store_means self.new.facts.store) result }
         ensures row { self.new.facts.store.row.items ≡ self.old.facts.store.row.items }
+        ensures trail { self.new.trail ≡ self.old.trail }
     {
         self.facts.new_variable()
     }
@@ -76,6 +78,7 @@ impl Search {
         ensures adds { Add (store_means self.old.facts.store) (store_means self.new.facts.store) clause.now result }
         ensures spends { Spent (store_means self.old.facts.store) (store_means self.new.facts.store) clause.now result }
         ensures row { self.new.facts.store.row.items ≡ (if is_ok result then self.old.facts.store.row.items ++ (length clause.now ∷ clause.now) else self.old.facts.store.row.items) }
+        ensures trail { self.new.trail ≡ self.old.trail }
     {
         self.facts.add(clause)
     }

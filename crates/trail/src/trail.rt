@@ -1,10 +1,11 @@
 ghost use Rattle.std.specs.Prelude.{◌≡◌, ◌-◌, ◌/◌, ◌<◌, true, [], length, replicate, vec_capacity, IfOk, IfSome};
 ghost use Rattle.rows.specs.Lits.{Turned};
+ghost use Rattle.rows.specs.declared.store.TheConstants.{MOST_LITERALS, MOST_VARIABLES};
 ghost use Rattle.trail.specs.Trails.{step_at, literal_at};
 ghost use Rattle.trail.specs.Values.{Refuted, Holds, Valued};
 
 use crate::step::{Reason, Step, Value, making};
-use rows::turned;
+use rows::{MOST_VARIABLES, turned};
 use std::alloc::{AllocError, Global};
 
 // Literals in the order in which they were put, and what is known of each variable.
@@ -12,14 +13,14 @@ use std::alloc::{AllocError, Global};
 pub struct Trail {
     // Kept as it is: values and places in two arrays. Nearly each use asks for one of the two alone, so that a struct of both would
     // be no plainer.
-    pub values: [Value; 4096],
+    pub values: [Value; MOST_VARIABLES],
     // Where each variable that has a value stands among the steps.
-    pub positions: [u16; 4096],
+    pub positions: [u16; MOST_VARIABLES],
     pub steps: Vec<Step>,
     // The place of each decision.
     pub decisions: Vec<u16>,
-    ghost room: { vec_capacity steps ≡ 4096 },
-    ghost levels: { vec_capacity decisions ≡ 4096 },
+    ghost room: { vec_capacity steps ≡ MOST_VARIABLES },
+    ghost levels: { vec_capacity decisions ≡ MOST_VARIABLES },
 }
 
 impl Trail {
@@ -28,14 +29,14 @@ impl Trail {
     // Makes an empty trail: every variable is open.
     pub fn new(heap: Global) -> Result<Trail, AllocError>
         ensures steps { IfOk result (λ t. t.steps.items ≡ []) }
-        ensures values { IfOk result (λ t. t.values ≡ replicate 4096 Value.Open) }
-        ensures placed { IfOk result (λ t. length t.positions ≡ 4096) }
+        ensures values { IfOk result (λ t. t.values ≡ replicate MOST_VARIABLES Value.Open) }
+        ensures placed { IfOk result (λ t. length t.positions ≡ MOST_VARIABLES) }
     {
         Ok(Trail {
-            values: [Value::Open; 4096],
-            positions: [0; 4096],
-            steps: Vec::with_capacity(heap, 4096)?,
-            decisions: Vec::with_capacity(heap, 4096)?,
+            values: [Value::Open; MOST_VARIABLES],
+            positions: [0; MOST_VARIABLES],
+            steps: Vec::with_capacity(heap, MOST_VARIABLES)?,
+            decisions: Vec::with_capacity(heap, MOST_VARIABLES)?,
         })
     }
 
@@ -44,7 +45,7 @@ impl Trail {
         ensures { result ≡ true → Refuted self.now.values l }
     {
         let v = (l / 2) as usize;
-        v < 4096 && self.values[v] == making(turned(l))
+        v < MOST_VARIABLES && self.values[v] == making(turned(l))
     }
 
     // Returns whether the literal is true.
@@ -53,7 +54,7 @@ impl Trail {
         ensures { result ≡ true → Holds self.now.values l }
     {
         let v = (l / 2) as usize;
-        v < 4096 && self.values[v] == making(l)
+        v < MOST_VARIABLES && self.values[v] == making(l)
     }
 
     // Returns whether the literal is true, false or open; None for what is no literal of a variable.
@@ -61,7 +62,7 @@ impl Trail {
         ensures { Valued self.now.values l result }
     {
         let v = (l / 2) as usize;
-        if v >= 4096 {
+        if v >= MOST_VARIABLES {
             return None;
         }
         let value = self.values[v];
@@ -87,7 +88,7 @@ impl Trail {
         ensures { IfSome result (λ j. (j < length self.now.steps.items) × Turned (literal_at self.now.steps.items j) l) }
     {
         let v = (l / 2) as usize;
-        if v >= 4096 {
+        if v >= MOST_VARIABLES {
             return None;
         }
         let j = self.positions[v] as usize;
@@ -99,19 +100,21 @@ impl Trail {
     }
 
     // Returns how many decisions were made.
-    pub fn levels(&self) -> u16 {
+    pub fn levels(&self) -> u16
+        ensures { result ≡ length self.now.decisions.items }
+    {
         self.decisions.len() as u16
     }
 
     // Puts the literal behind the others, and gives its variable the value that makes it true.
     pub(crate) fn put(&mut self, l: u16, reason: Reason)
-        requires small { l / 2 < 4096 }
-        requires room { length self.old.steps.items < 4096 }
+        requires small { l / 2 < MOST_VARIABLES }
+        requires room { length self.old.steps.items < MOST_VARIABLES }
         ensures { Put self.old self.new l reason }
     {
         let v = (l / 2) as usize;
         let place = self.steps.len() as u16;
-        if reason == Reason::Decision && self.decisions.len() < 4096 {
+        if reason == Reason::Decision && self.decisions.len() < MOST_VARIABLES {
             self.decisions.push_reserved(place);
         }
         let level = self.levels();
@@ -127,7 +130,7 @@ impl Trail {
     // Takes the last literal away and returns it; its variable is open.
     pub(crate) fn take_last(&mut self) -> u16
         requires some { 0 < length self.old.steps.items }
-        requires named { literal_at self.old.steps.items (length self.old.steps.items - 1) < 8192 }
+        requires named { literal_at self.old.steps.items (length self.old.steps.items - 1) < MOST_LITERALS }
         ensures { TakenLast self.old self.new result }
     {
         let step = self.steps.pop().unwrap();
@@ -141,11 +144,11 @@ impl Trail {
     // Takes all literals away: every variable is open.
     pub(crate) fn clear(&mut self)
         ensures steps { self.new.steps.items ≡ [] }
-        ensures values { self.new.values ≡ replicate 4096 Value.Open }
+        ensures values { self.new.values ≡ replicate MOST_VARIABLES Value.Open }
         ensures positions { self.new.positions ≡ self.old.positions }
     {
         self.steps.clear();
         self.decisions.clear();
-        self.values = [Value::Open; 4096];
+        self.values = [Value::Open; MOST_VARIABLES];
     }
 }

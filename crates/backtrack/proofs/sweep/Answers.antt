@@ -26,7 +26,7 @@ returns-in_err-visit-clause-swept c =
     let start = c.args.trail.now.items in
     let left = singles (drop (i + 1) assumptions) ++ clauses_of c.args.row.now in
     let now = subst (λ ls. Passing X (singles ls ++ clauses_of c.args.row.now) start c.loop-l.values c.loop-l.trail.items c.loop-l.«open») (drop_more assumptions i 0 c.loop-l-test.true) c.loop-l.invariant.0 in
-    swept_err X start c.visit.new.values c.visit.new.trail.items c.from_residual.result c.from_residual.ensures.0 (c.in_err-visit.ensures.visited X left start c.loop-l.«open» now)
+    swept_err X start c.visit.new.values c.visit.new.trail.items c.from_residual.result c.from_residual.ensures.0 (c.in_err-visit.ensures.visited X left start now)
 
 pub loop-clause-init : goal.loop-clause-init
 loop-clause-init c =
@@ -50,7 +50,7 @@ returns-in_err-visit-2-clause-swept c =
     let start = c.args.trail.now.items in
     let left = clauses_left c.next.new.self in
     let now = subst (λ ls. Passing X ls start c.loop-clause.values c.loop-clause.trail.items c.loop-clause.«open») c.in-Some.ensures.steps c.loop-clause.invariant.2 in
-    swept_err X start c.visit-in-loop-clause.new.values c.visit-in-loop-clause.new.trail.items c.from_residual-in_err-visit-2.result c.from_residual-in_err-visit-2.ensures.0 (c.in_err-visit-2.ensures.visited X left start c.loop-clause.«open» now)
+    swept_err X start c.visit-in-loop-clause.new.values c.visit-in-loop-clause.new.trail.items c.from_residual-in_err-visit-2.result c.from_residual-in_err-visit-2.ensures.0 (c.in_err-visit-2.ensures.visited X left start now)
 
 pub loop-clause-preserved : goal.loop-clause-preserved
 loop-clause-preserved c =
@@ -64,7 +64,7 @@ loop-clause-preserved c =
     let named = and_parts (allotted (length values) clause) (list_all (allotted (length values)) left) (ap (list_all (allotted (length values))) (sym c.in-Some.ensures.steps) ∙ c.loop-clause.invariant.3) in (
       tt,
       tt,
-      subst (Passing X left start c.visit-in-loop-clause.new.values c.visit-in-loop-clause.new.trail.items) (sym c.or-open-in-loop-clause.ensures) (c.in_ok-visit-2.ensures.visited X left start c.loop-clause.«open» now),
+      c.in_ok-visit-2.ensures.visited X left start now,
       ap (λ n. list_all (allotted n) left) size ∙ named.1,
       c.in_ok-visit-2.ensures.capacity ∙ c.loop-clause.invariant.4,
     )

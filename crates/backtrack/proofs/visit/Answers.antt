@@ -14,7 +14,7 @@ push-requires-clause-room c =
     omega (arith, opens_shut c.args.values.now (c.in-Forced.l / 2) 0 below h.1 (λ e. omega arith))
 
 pub returns-in-Forced-clause-visited : goal.returns-in-Forced-clause-visited
-returns-in-Forced-clause-visited c X left start o now =
+returns-in-Forced-clause-visited c X left start now =
     let told = c.in-Forced.ensures in
     let made = c.push.ensures in
-    rw (made.values, made.trail) (pass_push X c.args.clause.now left start c.args.values.now c.args.trail.now.items o now c.in-Forced.l told.0 told.1)
+    rw (made.values, made.trail) (pass_push X c.args.clause.now left start c.args.values.now c.args.trail.now.items c.args.«open».now now c.in-Forced.l told.0 told.1)
