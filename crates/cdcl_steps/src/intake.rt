@@ -7,6 +7,7 @@ ghost use Rattle.cdcl_steps.specs.Search.{Empty};
 
 use crate::solver::Solver;
 use chooser::Fault;
+use implied::Room;
 
 impl Solver {
     // Puts the clause into the pool, if there is room.
@@ -19,7 +20,7 @@ impl Solver {
             .reserved
             .saturating_sub(clause.len())
             .saturating_sub(1);
-        if let Some(c) = self.search.facts.learn(clause) {
+        if let Some(c) = self.search.facts.learn(clause, Room::NONE) {
             self.watches.watch_first(c, clause, self.tally.clashes, 0);
         }
     }

@@ -7,34 +7,28 @@ ghost use Rattle.cdcl_steps.specs.Search.{Jumps};
 
 use crate::solver::Solver;
 use decisions::{Plan, cut_back};
+use implied::Room;
 use trail::Reason;
 
 impl Solver {
-    // Returns whether the drawn clause can be learned, so that there is room for what is added later.
-    fn has_room(&self) -> bool {
-        let pool = &self.search.facts.pool;
-        let wanted = self
-            .tally
-            .reserved
-            .saturating_add(self.analyzer.clause.len());
-        pool.numbers_left() > wanted && pool.clauses_left() > self.tally.reserved / 3
-    }
-
-    // Puts the drawn clause into the pool, if there is room. Returns its number.
+    // Puts the drawn clause into the pool, if that leaves room for what is added later. Returns its number.
     fn learn(&mut self, glue: u16) -> Option<u32>
         requires { Drawn (allowed self.old.search.facts.store.row.items) self.old.analyzer.clause.items }
         ensures store { self.new.search.facts.store ≡ self.old.search.facts.store }
         ensures off { self.new.search.facts.off ≡ self.old.search.facts.off }
         ensures trail { self.new.search.trail ≡ self.old.search.trail }
     {
-        if !self.has_room() {
+        let reserved = self.tally.reserved;
+        let left = Room {
+            numbers: reserved,
+            clauses: reserved / 3,
+        };
+        let clause = self.analyzer.clause.as_slice();
+        let Some(c) = self.search.facts.learn(clause, left) else {
             // The next restart forgets.
             self.tally.limit = 0;
             return None;
-        }
-        let analyzer = &self.analyzer;
-        let clause = analyzer.clause.as_slice();
-        let c = self.search.facts.learn(clause)?;
+        };
         self.watches
             .watch_first(c, clause, self.tally.clashes, glue);
         self.tally.learned = self.tally.learned.saturating_add(1);

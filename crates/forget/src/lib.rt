@@ -4,7 +4,7 @@
 ghost use Rattle.std.specs.Prelude.{◌≡◌, []};
 ghost use Rattle.implied.specs.Implied.{allowed, Met};
 
-use implied::{Facts, Pool};
+use implied::{Facts, Pool, Room};
 use propagate::Watches;
 use trail::Search;
 
@@ -21,7 +21,7 @@ fn sift(facts: &Facts, spare: &mut Pool, watches: &mut Watches, now: u32, window
             break;
         };
         if watches.is_worth(c, now, window) {
-            if let Some(to) = spare.push(clause) {
+            if let Some(to) = spare.push(clause, Room::NONE) {
                 if watches.renumber(c, to) {
                     learned = learned.saturating_add(1);
                 }

@@ -1,8 +1,8 @@
-ghost use Rattle.std.specs.Prelude.{◌≡◌, ℕ, Bool, true, false, [], ◌∷◌, ◌++◌, length, IfOk, MatchOption, is_ok, if◌then◌else◌, ◌⊎◌};
+ghost use Rattle.std.specs.Prelude.{◌≡◌, ℕ, Bool, true, false, [], ◌∷◌, ◌++◌, length, IfOk, MatchOption, slice_index_or, is_ok, if◌then◌else◌, ◌⊎◌};
 ghost use Rattle.chooser.specs.Ways.{lit, some};
 ghost use Rattle.implied.specs.Implied.{allowed, Met, Off};
 
-use crate::pool::Pool;
+use crate::pool::{Pool, Room};
 use chooser::Fault;
 use rows::{ClauseStore, MOST_LITERALS, turned};
 use std::alloc::{AllocError, Global};
@@ -43,10 +43,10 @@ impl Facts {
 
     // Returns whether it is known that every allowed way makes the literal false.
     pub fn is_off(&self, l: u16) -> bool
-        ensures { result ≡ true → (p : ℕ → Bool) → allowed self.now.store.row.items p ≡ true → lit p l ≡ false }
+        ensures known { result ≡ true → (p : ℕ → Bool) → allowed self.now.store.row.items p ≡ true → lit p l ≡ false }
+        ensures marked { result ≡ slice_index_or self.now.off.items l false }
     {
-        let l = l as usize;
-        l < self.off.len() && self.off[l]
+        self.off.get(l as usize).map_or(false, |off| *off)
     }
 
     // Marks the literal known true: its opposite is off.
@@ -84,14 +84,15 @@ impl Facts {
         m == l || self.is_off(m)
     }
 
-    // Puts a clause into the pool that every allowed way meets, and returns its number; None where there is no room.
-    pub fn learn(&mut self, clause: &[u16]) -> Option<u32>
+    // Puts a clause into the pool that every allowed way meets, and returns its number; None where there is no room, or less than
+    // `left` would be left.
+    pub fn learn(&mut self, clause: &[u16], left: Room) -> Option<u32>
         requires { (p : ℕ → Bool) → allowed self.old.store.row.items p ≡ true → some (lit p) clause.now ≡ true }
         ensures store { self.new.store ≡ self.old.store }
         ensures off { self.new.off ≡ self.old.off }
         ensures pool { MatchOption result (self.new.pool ≡ self.old.pool) (λ c. (c ≡ length self.old.pool) × (self.new.pool ≡ self.old.pool ++ clause.now ∷ [])) }
     {
-        self.pool.push(clause)
+        self.pool.push(clause, left)
     }
 
     // Has the clauses of `spare` in place of those in the pool, which `spare` then has.

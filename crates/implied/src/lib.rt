@@ -6,4 +6,4 @@ mod facts;
 mod pool;
 
 pub use facts::Facts;
-pub use pool::Pool;
+pub use pool::{Pool, Room};

@@ -5,6 +5,20 @@ use rows::push_clause;
 use std::alloc::{AllocError, Global};
 use std::marker::Model;
 
+// Room for clauses: for how many, and for their numbers.
+#[derive(Clone, Copy)]
+pub struct Room {
+    pub numbers: usize,
+    pub clauses: usize,
+}
+
+impl Room {
+    pub const NONE: Room = Room {
+        numbers: 0,
+        clauses: 0,
+    };
+}
+
 // A list of clauses in room that is reserved once: they lie one after another in a run of numbers, each as its length and then
 // its literals, and `starts` has where each of them starts.
 // Kept as it is: a `Vec` for each clause would allocate, and nothing is allocated after a chooser is made.
@@ -39,15 +53,6 @@ impl Pool {
         self.starts.len()
     }
 
-    // Returns how many numbers are left, and how many clauses.
-    pub fn numbers_left(&self) -> usize {
-        self.numbers.capacity() - self.numbers.len()
-    }
-
-    pub fn clauses_left(&self) -> usize {
-        self.starts.capacity() - self.starts.len()
-    }
-
     // Returns the literals of the clause `c`.
     pub fn clause(&self, c: u32) -> Option<&[u16]>
         ensures clause { IfSome result (λ ls. (c < length self.now) × (ls.now ≡ slice_index_or self.now c [])) }
@@ -62,14 +67,15 @@ impl Pool {
         Some(&self.numbers[first..first + len])
     }
 
-    // Puts a clause behind the others, and returns its number. Without room for it, the pool stays as it is.
-    pub fn push(&mut self, clause: &[u16]) -> Option<u32>
+    // Puts a clause behind the others, and returns its number. Without room for it, the pool stays as it is; nor is there room
+    // where less than `left` would be left for other clauses.
+    pub fn push(&mut self, clause: &[u16], left: Room) -> Option<u32>
         ensures { MatchOption result (self.new ≡ self.old) (λ c. (c ≡ length self.old) × (self.new ≡ self.old ++ clause.now ∷ [])) }
     {
         let c = self.starts.len();
         let start = self.numbers.len();
-        if c >= self.starts.capacity()
-            || self.numbers.capacity() - start <= clause.len()
+        if self.starts.capacity() - c <= left.clauses
+            || self.numbers.capacity() - start <= clause.len().saturating_add(left.numbers)
             || clause.len() > u16::MAX as usize
             || start > u32::MAX as usize
             || c > u32::MAX as usize

@@ -30,7 +30,7 @@ loop-m-preserved c =
           (λ k lt. part_grows p steps l.self.seen.items n.self.seen.items c.args.i c.args.but (get_or clause k 0) more (l.invariant.parts p x k lt))
           (elim n.branch [
             | else-ne-via-then-ne+then-not-is_off+else-not-see w ↦ subst (λ z. Part p steps z.seen.items c.args.i c.args.but (get_or clause l.m-index 0)) (sym w.self-is) (part_seen p steps w.see.new.self.seen.items c.args.i c.args.but (get_or clause l.m-index 0) (w.see.ensures.found w.if-not-see.false))
-            | else-ne-via-then-ne+else-not-is_off w ↦ inl (w.is_off.ensures w.if-not-is_off.false p x)
+            | else-ne-via-then-ne+else-not-is_off w ↦ inl (w.is_off.ensures.known w.if-not-is_off.false p x)
             | else-ne-via-else-ne w ↦ inr (inr (search rules))
           ]);
     }
