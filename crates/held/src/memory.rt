@@ -1,5 +1,5 @@
 // The working memory: environments and rows of arguments in the places that are lent.
-ghost use Rattle.std.specs.Prelude.{◌≡◌, ℕ, ◌+◌, ◌-◌, ◌<◌, ◌≤◌, List, length, slice_set, slice_index_or, Some, None, Option};
+ghost use Rattle.std.specs.Prelude.{◌≡◌, ℕ, ◌+◌, ◌-◌, ◌<◌, ◌≤◌, length, slice_set, slice_index_or, Some};
 ghost use Rattle.judging.specs.Held.{Held as Spec, Helds, h[], ◌h∷◌, bound, frees, ◌h++◌};
 ghost use Rattle.held.specs.Reading.{Text, Reads};
 ghost use Rattle.held.specs.Standing.{no_place, place_at, down, hlength, Stands, Env, Row};

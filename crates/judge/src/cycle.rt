@@ -1,5 +1,4 @@
 // Heads, comparings and lists of arguments, which call one another while steps are left.
-ghost use Rattle.std.specs.Prelude.{◌≡◌, ℕ, ◌<◌, ◌≤◌, length};
 ghost use Rattle.judge.specs.Texts.{text_of};
 ghost use Rattle.judge.specs.Means.{Heads, TermsHeads, CasesHeads, AndsHeads, Compares, Compared, Pairs, Few, Kept, HasRoom};
 

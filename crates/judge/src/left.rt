@@ -1,5 +1,5 @@
 // What the judge has left to work with.
-ghost use Rattle.std.specs.Prelude.{◌≡◌, ℕ};
+ghost use Rattle.std.specs.Prelude.{◌≡◌};
 
 use held::memory::Memory;
 

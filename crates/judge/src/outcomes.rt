@@ -1,5 +1,5 @@
 // What the rules make of heads and verdicts that are at hand.
-ghost use Rattle.std.specs.Prelude.{◌≡◌, ℕ, ◌+◌, ◌<◌, ◌≤◌, List, Some};
+ghost use Rattle.std.specs.Prelude.{ℕ, List, Some};
 ghost use Rattle.std.proofs.Math.Option.{Option as Maybe};
 ghost use Rattle.judging.specs.Judging.{Head as HeadOf, Verdict as VerdictOf, go_on, give, negation, and_true, and_waits, truth, after_same, after_wait};
 ghost use Rattle.held.specs.Reading.{Text};

@@ -5,7 +5,6 @@ use Rattle.syntax.specs.declared.faults.Fault.{Fault}
 use Rattle.syntax.specs.declared.faults.Reason.TheVariants.{PastEnd}
 use Rattle.syntax.specs.Faults.{fault}
 use Rattle.syntax.specs.Typing.{Sig, arguments}
-use Rattle.model.specs.Within.{Within}
 use Rattle.model.specs.Reading.{and_then, there, ends, top_of, end_by, value_end}
 
 pub drop_none : (n : ℕ) (xs : List ℕ) → length xs ≤ n → drop n xs ≡ []

@@ -1,7 +1,7 @@
 // The unknowns that model bytes decide.
-ghost use Rattle.std.specs.Prelude.{◌≡◌, ℕ, ◌+◌, ◌<◌, ◌≤◌, List, ◌++◌, length};
+ghost use Rattle.std.specs.Prelude.{◌≡◌, ◌≤◌, length};
 ghost use Rattle.syntax.specs.Problems.{sig_of};
-ghost use Rattle.model.specs.Reading.{places_from, reading};
+ghost use Rattle.model.specs.Reading.{places_from};
 ghost use Rattle.model.specs.Places.{starts_from, decided_by};
 ghost use Rattle.model.specs.Models.{Placed, Read};
 
@@ -84,17 +84,14 @@ impl<P: Declares> Decides for Model<'_, P> {
     }
 
     fn choice(&self, unknown: u16) -> Option<Choice> {
-        let place = unknown as usize;
-        if place + 2 >= self.bytes.len() || self.bytes[place] != 2 {
+        let place = usize::from(unknown);
+        let Some([2, ty, constructor, ..]) = self.bytes.get(place..) else {
             return None;
-        }
-        let constructor = self.bytes[place + 2];
-        let types = self
-            .problem
-            .argument_types(self.bytes[place + 1], constructor);
+        };
+        let types = self.problem.argument_types(*ty, *constructor);
         let children = self.starts(types, place + 3);
         Some(Choice {
-            constructor,
+            constructor: *constructor,
             children,
         })
     }

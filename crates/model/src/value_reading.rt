@@ -1,5 +1,5 @@
 // Reads the values in model bytes.
-ghost use Rattle.std.specs.Prelude.{◌≡◌, ℕ, ◌+◌, ◌<◌, ◌≤◌, List, length, Ok, slice_index};
+ghost use Rattle.std.specs.Prelude.{◌≡◌, ℕ, ◌+◌, ◌<◌, ◌≤◌, length, Ok, slice_index};
 ghost use Rattle.syntax.specs.Problems.{sig_of};
 ghost use Rattle.model.specs.Reading.{there, top_of, value_end, start_of};
 ghost use Rattle.model.specs.Within.{Within, Topped};
@@ -34,7 +34,8 @@ impl<P: Declares> ValueReader<'_, P> {
         ensures within { Within self.now.mark (length self.now.bytes.now) result }
     {
         let place = self.mark;
-        if !self.bytes[place.min(self.bytes.len())..].starts_with(b"MD") {
+        let rest = self.bytes.get(place..).unwrap_or(&[]);
+        if !rest.starts_with(b"MD") {
             return Err(Reason::NoMark.at(place));
         }
         let k = self.byte(place + 2)?;

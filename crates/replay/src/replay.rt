@@ -11,6 +11,9 @@ use judge::judge::Judge;
 use model::deciding::read_model;
 use problem::problem::Problem;
 
+// The most steps that a goal may have.
+pub const MOST_STEPS: usize = 4096;
+
 // Judges every goal, each with all the steps, into one byte of the answer.
 fn judge_all<D: Decides>(
     judge: &Judge<'_, D>,
@@ -39,7 +42,7 @@ pub fn replay<'a>(
 ) -> Result<(), ReplayFault>
     ensures { Replayed (meant problem.now) bytes.now steps (length memory.old) answer.old answer.new result }
 {
-    if steps < 1 || steps > 4096 {
+    if steps < 1 || steps > MOST_STEPS {
         return Err(ReplayFault::Steps);
     }
     if memory.len() < 6 * steps {

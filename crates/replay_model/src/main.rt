@@ -3,11 +3,9 @@
 
 use held::places::Place;
 use problem::take::take;
-use replay::replay::replay;
+use replay::replay::{MOST_STEPS, replay};
 use std::{env, fs, io};
 use verdict::check::check;
-
-const STEPS: usize = 4096;
 
 // A byte of the answer, as a word.
 // Kept as it is: `replay` answers in bytes that its caller lends, and these numbers are its documented form.
@@ -26,12 +24,12 @@ fn run(rt: &HostRuntime, bytes: &[u8], model: &[u8]) -> io::Result<()> {
     }
     let heap = rt.alloc();
     let problem = take(heap, bytes)?;
-    let mut memory = vec![in heap; Place::BLANK; 6 * STEPS]?;
+    let mut memory = vec![in heap; Place::BLANK; 6 * MOST_STEPS]?;
     let mut answer = vec![in heap; 0u8; problem.goals()]?;
     if let Err(fault) = replay(
         &problem,
         model,
-        STEPS,
+        MOST_STEPS,
         memory.as_mut_slice(),
         answer.as_mut_slice(),
     ) {

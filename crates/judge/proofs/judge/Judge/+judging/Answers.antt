@@ -2,7 +2,7 @@ use Rattle.std.proofs.Common.{◌≡◌, ℕ, ◌+◌, ◌-◌, Bool, [], ◌++�
 use Rattle.std.proofs.lemmas.Bool.{eq-eqb, ne_eqb}
 use Rattle.syntax.specs.Terms.{Term}
 use Rattle.judging.specs.Held.{Held, hold, h[], branch, no_function, body_of, bound, holds, ◌h++◌}
-use Rattle.judging.specs.Judging.{Unknowns, Head, Asks, Judging, go_on, give, negation, and_true, and_waits, truth, after_same, after_wait, of_unknown, after_pair, pairs, by_constructors, after_right, after_left, after_subject, and_right, headed, judges}
+use Rattle.judging.specs.Judging.{Unknowns, Head, Asks, Judging, go_on, give, negation, truth, after_same, after_wait, of_unknown, after_pair, pairs, by_constructors, after_right, after_left, after_subject, and_right, headed, judges}
 use Rattle.held.specs.Reading.{Text, Reads}
 use Rattle.judge.specs.Texts.{text_of, tlength}
 use Rattle.judge.proofs.Texts.{reads, shown}
