@@ -5,8 +5,6 @@ use rows::MOST_VARIABLES;
 use std::alloc::{AllocError, Global};
 use trail::{Trail, Value};
 
-const VARIABLES: usize = MOST_VARIABLES as usize;
-
 // How far an activity may grow before all are divided by 2 ^ 40.
 const HIGH: u64 = 1 << 60;
 
@@ -59,8 +57,8 @@ impl Order {
         ensures variables { IfOk result (λ o. o.variables.items ≡ replicate 4096 FRESH) }
     {
         Ok(Order {
-            heap: Vec::with_capacity(heap, VARIABLES)?,
-            variables: vec![in heap; FRESH; VARIABLES]?,
+            heap: Vec::with_capacity(heap, MOST_VARIABLES)?,
+            variables: vec![in heap; FRESH; MOST_VARIABLES]?,
             step: 65536,
         })
     }
@@ -139,7 +137,7 @@ impl Order {
     // Puts the variable into the heap, if it is not there.
     pub fn insert(&mut self, v: u16) {
         let i = self.heap.len();
-        if (v as usize) < VARIABLES && i < VARIABLES && self.variables[v as usize].place.is_none() {
+        if (v as usize) < MOST_VARIABLES && i < MOST_VARIABLES && self.variables[v as usize].place.is_none() {
             self.heap.push_reserved(v);
             self.sift_up(i);
         }
@@ -178,7 +176,7 @@ impl Order {
     // Keeps the value that makes the literal true, and puts its variable into the heap.
     pub(crate) fn release(&mut self, l: u16) {
         let v = l / 2;
-        if (v as usize) < VARIABLES {
+        if (v as usize) < MOST_VARIABLES {
             self.variables[v as usize].phase = l % 2 == 0;
             self.insert(v);
         }
@@ -186,7 +184,7 @@ impl Order {
 
     // Keeps the values of the trail's variables, of which the first `n` are allotted, and puts these into the heap.
     pub fn refill(&mut self, trail: &Trail, n: usize) {
-        let allotted = n.min(VARIABLES);
+        let allotted = n.min(MOST_VARIABLES);
         keep_phases(&mut self.variables, &trail.values[..allotted]);
         for v in 0..allotted {
             self.insert(v as u16);
@@ -221,7 +219,7 @@ impl Order {
     pub fn reward(&mut self, trail: &Trail, seen: &mut [bool]) {
         for step in &trail.steps {
             let v = (step.literal / 2) as usize;
-            if v < VARIABLES && v < seen.len() && seen[v] {
+            if v < MOST_VARIABLES && v < seen.len() && seen[v] {
                 seen[v] = false;
                 self.bump(v);
             }

@@ -23,8 +23,6 @@ pub struct Analyzer {
     ghost room: { vec_capacity clause ≡ 4096 },
 }
 
-const VARIABLES: usize = MOST_VARIABLES as usize;
-
 impl Analyzer {
     // Makes an analyzer that has no clause, saw no variable and met no level.
     pub fn new(heap: Global) -> Result<Analyzer, AllocError>
@@ -34,10 +32,10 @@ impl Analyzer {
         ensures met { IfOk result (λ a. a.met.items ≡ replicate 4097 0) }
     {
         Ok(Analyzer {
-            clause: Vec::with_capacity(heap, VARIABLES)?,
-            seen: vec![in heap; false; VARIABLES]?,
+            clause: Vec::with_capacity(heap, MOST_VARIABLES)?,
+            seen: vec![in heap; false; MOST_VARIABLES]?,
             left: 0,
-            met: vec![in heap; 0u32; VARIABLES + 1]?,
+            met: vec![in heap; 0u32; MOST_VARIABLES + 1]?,
         })
     }
 
@@ -138,7 +136,7 @@ impl Analyzer {
         for i in (0..search.trail.steps.len()).rev() {
             let l = search.trail.step(i).literal;
             if self.is_seen(l) && !self.attempt(search, i) {
-                if self.clause.len() >= VARIABLES {
+                if self.clause.len() >= MOST_VARIABLES {
                     return false;
                 }
                 self.clause.push_reserved(turned(l));

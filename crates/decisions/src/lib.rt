@@ -11,15 +11,12 @@ ghost use Rattle.decisions.specs.Plans.{Forced, Planned, Assumed, Chosen};
 use activity::{Order, unwind};
 use implied::Facts;
 use outcome::{Next, conclude};
-use rows::{MOST_VARIABLES, turned};
+use rows::{MOST_LITERALS, turned};
 use trail::{Reason, Search, Trail, Value};
 
 mod plan;
 
 pub use plan::Plan;
-
-// The literals of all variables are below it.
-const LITERALS: u16 = (2 * MOST_VARIABLES) as u16;
 
 // Puts the literals that are known true on an empty trail.
 pub fn begin(search: &mut Search)
@@ -28,7 +25,7 @@ pub fn begin(search: &mut Search)
 {
     search.clear();
     // Kept as it is: literals are numbers, and whether one is off is asked by its number.
-    for l in 0..LITERALS {
+    for l in 0..MOST_LITERALS as u16 {
         put_known(search, l);
     }
 }

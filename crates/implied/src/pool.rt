@@ -58,11 +58,7 @@ impl Pool {
         ensures clause { IfSome result (λ ls. (c < length self.now) × (ls.now ≡ slice_index_or self.now c [])) }
         ensures short { IfSome result (λ ls. length ls.now < 2 ^ 16) }
     {
-        let c = c as usize;
-        if c >= self.starts.len() {
-            return None;
-        }
-        let first = self.starts[c] as usize + 1;
+        let first = *self.starts.get(c as usize)? as usize + 1;
         let len = self.numbers[first - 1] as usize;
         Some(&self.numbers[first..first + len])
     }

@@ -11,17 +11,20 @@ use judge::left::Left;
 use judge::verdicts::Judgement;
 use model::deciding::read_model;
 use problem::take::take;
+use replay::replay::MOST_STEPS;
 use std::time::Instant;
 use std::{env, fs, io};
 
-const STEPS: usize = 4096;
-
-// What the first goal is judged to be, and the steps that were left. There has to be room for all steps, and a goal.
+// What the first goal is judged to be, and the steps that were left. There has to be room for all steps. Where there is no goal, a
+// step finds that.
 fn once<D: Decides>(judge: &Judge<'_, D>, places: &mut [Place]) -> (Judgement, usize) {
-    if places.len() < 6 * STEPS || judge.problem.goals() == 0 {
-        return (Judgement::Out, STEPS);
+    if places.len() < 6 * MOST_STEPS {
+        return (Judgement::Out, MOST_STEPS);
     }
-    let mut left = Left::new(Memory::new(places), STEPS);
+    if judge.problem.goals() == 0 {
+        return (Judgement::Out, MOST_STEPS - 1);
+    }
+    let mut left = Left::new(Memory::new(places), MOST_STEPS);
     let mut because = Explanation::nothing();
     let judged = judge.judge_within(&mut left, &mut because, 0);
     (judged, left.steps)
@@ -34,7 +37,7 @@ fn measure<D: Decides>(
     times: u32,
 ) -> io::Result<()> {
     let (judged, left) = once(judge, places);
-    let steps = STEPS.saturating_sub(left);
+    let steps = MOST_STEPS.saturating_sub(left);
     if times == 0 {
         return println!(rt; "{judged}, {steps} steps");
     }
@@ -42,7 +45,7 @@ fn measure<D: Decides>(
     let mut all: u128 = 0;
     for _ in 0..times {
         let (_, left) = once(judge, places);
-        all = all.saturating_add(STEPS.saturating_sub(left) as u128);
+        all = all.saturating_add(MOST_STEPS.saturating_sub(left) as u128);
     }
     let micros = start.elapsed(rt)?.as_micros();
     if micros == 0 {
@@ -65,7 +68,7 @@ fn main(rt: HostRuntime) -> io::Result<()> {
     let heap = rt.alloc();
     let bytes = fs::read(&rt, path.as_str())?;
     let problem = take(heap, bytes.as_slice())?;
-    let mut places = vec![in heap; Place::BLANK; 6 * STEPS]?;
+    let mut places = vec![in heap; Place::BLANK; 6 * MOST_STEPS]?;
     match read_model(&problem, &[]) {
         Ok(model) => {
             let judge = Judge {

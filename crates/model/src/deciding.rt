@@ -11,13 +11,14 @@ use crate::value_reading::ValueReader;
 use arrayvec::ArrayVec;
 use judge::decides::{Choice, Decides};
 use syntax::faults::{Fault, Reason};
+use syntax::limits::MOST_BYTES;
 
 // Reads model bytes: a value for each unknown of the problem in order, and nothing after.
 pub fn read_model<'a, P: Declares>(problem: &'a P, bytes: &'a [u8]) -> Result<Model<'a, P>, Fault>
     ensures { Read (P.declares problem.now) problem.now bytes.now result }
 {
-    if bytes.len() > 16384 {
-        return Err(Reason::TooLong.at(16384));
+    if bytes.len() > MOST_BYTES {
+        return Err(Reason::TooLong.at(MOST_BYTES));
     }
     let roots = read_roots(problem, bytes)?;
     Ok(Model {

@@ -3,7 +3,7 @@ ghost use Rattle.propagate.specs.Visits.{Stopped};
 ghost use Rattle.propagate.specs.Uses.{entry, timed, worth, Noted};
 
 use crate::visit::{Visit, unfalse, visit_clause};
-use rows::{MOST_VARIABLES, turned};
+use rows::{MOST_LITERALS, turned};
 use std::alloc::{AllocError, Global};
 use trail::{Reason, Search, Trail};
 
@@ -53,7 +53,7 @@ impl Watches {
         ensures clauses { IfOk result (λ w. w.clauses.items ≡ replicate clauses UNWATCHED) }
     {
         Ok(Watches {
-            first: vec![in heap; NONE; 2 * MOST_VARIABLES as usize]?,
+            first: vec![in heap; NONE; MOST_LITERALS]?,
             clauses: vec![in heap; UNWATCHED; clauses]?,
         })
     }

@@ -61,11 +61,7 @@ impl Trail {
     pub fn value(&self, l: u16) -> Option<Value>
         ensures { Valued self.now.values l result }
     {
-        let v = (l / 2) as usize;
-        if v >= MOST_VARIABLES {
-            return None;
-        }
-        let value = self.values[v];
+        let value = *self.values.get((l / 2) as usize)?;
         Some(if value == Value::Open {
             Value::Open
         } else if value == making(l) {
@@ -87,11 +83,7 @@ impl Trail {
     pub fn place_against(&self, l: u16) -> Option<usize>
         ensures { IfSome result (λ j. (j < length self.now.steps.items) × Turned (literal_at self.now.steps.items j) l) }
     {
-        let v = (l / 2) as usize;
-        if v >= MOST_VARIABLES {
-            return None;
-        }
-        let j = self.positions[v] as usize;
+        let j = *self.positions.get((l / 2) as usize)? as usize;
         if j < self.steps.len() && self.step(j).literal == turned(l) {
             Some(j)
         } else {
