@@ -3,16 +3,20 @@
 // The bytes of a problem.
 pub const MOST_BYTES: usize = 16384;
 
-// What a problem declares; Bool is one of the types.
+// The types of a problem, Bool among them.
 pub const MOST_TYPES: usize = 32;
 
+// Its functions.
 pub const MOST_FUNCTIONS: usize = 64;
 
+// Its unknowns.
 pub const MOST_UNKNOWNS: usize = 16;
 
+// Its goals.
 pub const MOST_GOALS: usize = 32;
 
-// The constructors of a type, and the types in a list of arguments or parameters.
+// The constructors of a type.
 pub const MOST_CONSTRUCTORS: usize = 16;
 
+// The types in a list of arguments or parameters.
 pub const MOST_ARGUMENTS: usize = 6;
