@@ -225,7 +225,8 @@ impl Analyzer {
 
     // Returns how many levels the clause joins, at most; `clash` is the number of the clash.
     pub fn glue(&mut self, trail: &Trail, clash: u32) -> u16
-        ensures { self.new.clause ≡ self.old.clause }
+        ensures clause { self.new.clause ≡ self.old.clause }
+        ensures seen { self.new.seen ≡ self.old.seen }
     {
         let mut glue: u16 = 1;
         for m in &self.clause {

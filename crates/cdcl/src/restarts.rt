@@ -1,4 +1,4 @@
-ghost use Rattle.std.specs.Prelude.{◌≡◌, ◌+◌, ◌-◌, ◌^◌, ◌<◌, true};
+ghost use Rattle.std.specs.Prelude.{◌≡◌, ◌+◌, ◌-◌, ◌%◌, ◌^◌, ◌<◌, ◌&&◌, nat_le, nat_lt};
 
 // How many clashes the first stretch has, and each that begins a round of longer ones.
 const SHORTEST: u32 = 100;
@@ -30,7 +30,7 @@ impl Restarts {
     }
 
     pub fn is_due(&self) -> bool
-        ensures { result ≡ true → 0 < self.now.left }
+        ensures { result ≡ (nat_le self.now.wait self.now.since && nat_lt 0 self.now.left) }
     {
         self.since >= self.wait && self.left > 0
     }
@@ -38,7 +38,8 @@ impl Restarts {
     // Begins the next stretch of clashes: it is a tenth longer each time, and the shortest again past the most, which grows then.
     pub fn begin_next(&mut self)
         requires { 0 < self.old.left }
-        ensures { self.new.left + 1 ≡ self.old.left }
+        ensures left { self.new.left + 1 ≡ self.old.left }
+        ensures since { self.new.since ≡ 0 }
     {
         self.left -= 1;
         self.since = 0;
@@ -53,7 +54,9 @@ impl Restarts {
     }
 
     pub fn count_clash(&mut self)
-        ensures { self.new.left ≡ self.old.left }
+        ensures left { self.new.left ≡ self.old.left }
+        ensures since { self.new.since ≡ (self.old.since + 1) % 2 ^ 32 }
+        ensures waits { (self.new.wait ≡ self.old.wait) × (self.new.most ≡ self.old.most) }
     {
         self.since = self.since.wrapping_add(1);
     }

@@ -13,7 +13,8 @@ impl Solver {
     // Puts the clause into the pool, if there is room.
     fn pool_clause(&mut self, clause: &[u16])
         requires { (p : ℕ → Bool) → allowed self.old.search.facts.store.row.items p ≡ true → some (lit p) clause.now ≡ true }
-        ensures { self.new.search.facts.store ≡ self.old.search.facts.store }
+        ensures store { self.new.search.facts.store ≡ self.old.search.facts.store }
+        ensures trail { self.new.search.trail ≡ self.old.search.trail }
     {
         self.tally.reserved = self
             .tally
@@ -29,6 +30,7 @@ impl Solver {
     fn take_in(&mut self, clause: &[u16]) -> bool
         requires { (p : ℕ → Bool) → allowed self.old.search.facts.store.row.items p ≡ true → some (lit p) clause.now ≡ true }
         ensures store { self.new.search.facts.store ≡ self.old.search.facts.store }
+        ensures trail { self.new.search.trail ≡ self.old.search.trail }
         ensures none { result ≡ true → Empty self.new.search.facts.store.row.items }
     {
         match clause {
@@ -52,6 +54,7 @@ impl Solver {
         ensures adds { Add (store_means self.old.search.facts.store) (store_means self.new.search.facts.store) clause.now result }
         ensures spends { Spent (store_means self.old.search.facts.store) (store_means self.new.search.facts.store) clause.now result }
         ensures row { self.new.search.facts.store.row.items ≡ (if is_ok result then self.old.search.facts.store.row.items ++ (length clause.now ∷ clause.now) else self.old.search.facts.store.row.items) }
+        ensures trail { self.new.search.trail ≡ self.old.search.trail }
         ensures none { result ≡ Ok true → Empty self.new.search.facts.store.row.items }
     {
         self.search.add(clause)?;

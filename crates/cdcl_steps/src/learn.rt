@@ -23,7 +23,8 @@ impl Solver {
             numbers: reserved,
             clauses: reserved / 3,
         };
-        let clause = self.analyzer.clause.as_slice();
+        let analyzer = &self.analyzer;
+        let clause = analyzer.clause.as_slice();
         let Some(c) = self.search.facts.learn(clause, left) else {
             // The next restart forgets.
             self.tally.limit = 0;

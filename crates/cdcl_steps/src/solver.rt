@@ -67,7 +67,7 @@ impl Solver {
 
     // Begins a search over the first `n` variables: what is known true stands on the trail.
     pub fn begin(&mut self, n: usize) -> Plan
-        ensures store { self.new.search.facts.store ≡ self.old.search.facts.store }
+        ensures facts { self.new.search.facts ≡ self.old.search.facts }
         ensures planned { (given : List ℕ) → Planned given self.new.search.trail.steps.items result }
     {
         self.order.refill(&self.search.trail, n);

@@ -32,7 +32,8 @@ impl Facts {
         numbers: usize,
         clauses: usize,
     ) -> Result<Facts, AllocError>
-        ensures { IfOk result (λ f. f.store ≡ store) }
+        ensures store { IfOk result (λ f. f.store ≡ store) }
+        ensures pool { IfOk result (λ f. f.pool ≡ []) }
     {
         Ok(Facts {
             store,
@@ -112,6 +113,8 @@ impl Facts {
     pub fn new_variable(&mut self) -> Result<u16, Fault>
         ensures grows { NewVariable (store_means self.old.store) (store_means self.new.store) result }
         ensures row { self.new.store.row.items ≡ self.old.store.row.items }
+        ensures pool { self.new.pool ≡ self.old.pool }
+        ensures off { self.new.off ≡ self.old.off }
     {
         self.store.new_variable()
     }
@@ -121,6 +124,8 @@ impl Facts {
         ensures adds { Add (store_means self.old.store) (store_means self.new.store) clause.now result }
         ensures spends { Spent (store_means self.old.store) (store_means self.new.store) clause.now result }
         ensures row { self.new.store.row.items ≡ (if is_ok result then self.old.store.row.items ++ (length clause.now ∷ clause.now) else self.old.store.row.items) }
+        ensures pool { self.new.pool ≡ self.old.pool }
+        ensures off { self.new.off ≡ self.old.off }
     {
         self.store.add(clause)
     }

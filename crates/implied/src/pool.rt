@@ -1,4 +1,4 @@
-ghost use Rattle.std.specs.Prelude.{◌≡◌, ℕ, ◌^◌, ◌<◌, List, [], ◌∷◌, ◌++◌, length, map, slice_index_or, IfOk, IfSome, MatchOption};
+ghost use Rattle.std.specs.Prelude.{◌≡◌, ℕ, ◌^◌, ◌<◌, ◌≤◌, List, [], ◌∷◌, ◌++◌, length, map, slice_index_or, IfOk, IfSome, MatchOption};
 ghost use Rattle.implied.specs.Lying.{clause_at, Lying};
 
 use rows::push_clause;
@@ -55,7 +55,7 @@ impl Pool {
 
     // Returns the literals of the clause `c`.
     pub fn clause(&self, c: u32) -> Option<&[u16]>
-        ensures clause { IfSome result (λ ls. (c < length self.now) × (ls.now ≡ slice_index_or self.now c [])) }
+        ensures clause { MatchOption result (length self.now ≤ c) (λ ls. (c < length self.now) × (ls.now ≡ slice_index_or self.now c [])) }
         ensures short { IfSome result (λ ls. length ls.now < 2 ^ 16) }
     {
         let first = *self.starts.get(c as usize)? as usize + 1;

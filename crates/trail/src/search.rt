@@ -1,4 +1,4 @@
-ghost use Rattle.std.specs.Prelude.{◌≡◌, ◌<◌, ◌∷◌, ◌++◌, ◌≢◌, length, IfOk, is_ok, if◌then◌else◌};
+ghost use Rattle.std.specs.Prelude.{◌≡◌, ◌<◌, [], ◌∷◌, ◌++◌, ◌≢◌, length, IfOk, is_ok, if◌then◌else◌};
 ghost use Rattle.implied.specs.Implied.{allowed};
 ghost use Rattle.trail.specs.Trails.{Sound, Follows};
 
@@ -24,7 +24,8 @@ impl Search {
 
     // Begins with an empty trail.
     pub fn new(heap: Global, facts: Facts) -> Result<Search, AllocError>
-        ensures { IfOk result (λ s. s.facts ≡ facts) }
+        ensures facts { IfOk result (λ s. s.facts ≡ facts) }
+        ensures trail { IfOk result (λ s. s.trail.steps.items ≡ []) }
     {
         Ok(Search {
             facts,
@@ -68,6 +69,8 @@ impl Search {
     pub fn new_variable(&mut self) -> Result<u16, Fault>
         ensures grows { NewVariable (store_means self.old.facts.store) (store_means self.new.facts.store) result }
         ensures row { self.new.facts.store.row.items ≡ self.old.facts.store.row.items }
+        ensures pool { self.new.facts.pool ≡ self.old.facts.pool }
+        ensures off { self.new.facts.off ≡ self.old.facts.off }
         ensures trail { self.new.trail ≡ self.old.trail }
     {
         self.facts.new_variable()
@@ -78,6 +81,8 @@ impl Search {
         ensures adds { Add (store_means self.old.facts.store) (store_means self.new.facts.store) clause.now result }
         ensures spends { Spent (store_means self.old.facts.store) (store_means self.new.facts.store) clause.now result }
         ensures row { self.new.facts.store.row.items ≡ (if is_ok result then self.old.facts.store.row.items ++ (length clause.now ∷ clause.now) else self.old.facts.store.row.items) }
+        ensures pool { self.new.facts.pool ≡ self.old.facts.pool }
+        ensures off { self.new.facts.off ≡ self.old.facts.off }
         ensures trail { self.new.trail ≡ self.old.trail }
     {
         self.facts.add(clause)

@@ -14,7 +14,7 @@ pub learn-requires : goal.learn-requires
 learn-requires c p x =
     let same = ap (λ f. f.store.row.items) c.cut_back.ensures.kept.facts in
     let drawn = c.in-Some.ensures.0 in
-    ap (λ z. some (lit p) z.items) c.glue-glue.ensures ∙ drawn p (ap (λ r. allowed r p) (sym same) ∙ x)
+    ap (λ z. some (lit p) z.items) c.glue-glue.ensures.clause ∙ drawn p (ap (λ r. allowed r p) (sym same) ∙ x)
 
 pub push-requires : goal.push-requires
 push-requires c _ =
