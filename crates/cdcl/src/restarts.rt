@@ -1,4 +1,4 @@
-ghost use Rattle.std.specs.Prelude.{◌≡◌, ◌+◌, ◌-◌, ◌%◌, ◌^◌, ◌<◌, ◌&&◌, nat_le, nat_lt};
+ghost use Rattle.std.specs.Prelude.{◌≡◌, ◌+◌, ◌-◌, ◌%◌, ◌^◌, ◌<◌, ◌&&◌, true, nat_le, nat_lt};
 
 // How many clashes the first stretch has, and each that begins a round of longer ones.
 const SHORTEST: u32 = 100;
@@ -30,7 +30,8 @@ impl Restarts {
     }
 
     pub fn is_due(&self) -> bool
-        ensures { result ≡ (nat_le self.now.wait self.now.since && nat_lt 0 self.now.left) }
+        ensures due { result ≡ (nat_le self.now.wait self.now.since && nat_lt 0 self.now.left) }
+        ensures some { result ≡ true → 0 < self.now.left }
     {
         self.since >= self.wait && self.left > 0
     }

@@ -9,7 +9,7 @@ pub turn-smaller : goal.turn-smaller
 turn-smaller c =
     let t = c.turn.solver.search in
     let v = c.backjump.new.self.search in
-    subst (λ f. measure f v.trail.steps.items < measure c.turn.restarts.left t.trail.steps.items) (sym c.count_clash.ensures)
+    subst (λ f. measure f v.trail.steps.items < measure c.turn.restarts.left t.trail.steps.items) (sym c.count_clash.ensures.left)
     (jumped_less t c.advance.new.self.search v c.advance.ensures.grew c.turn.restarts.left c.if-not-backjump.ensures.jumped)
 
 pub turn-preserved-in-Decide : goal.turn-preserved-in-Decide
@@ -34,6 +34,6 @@ turn-smaller-in-Decide c =
 
 pub turn-smaller-then-is_due : goal.turn-smaller-then-is_due
 turn-smaller-then-is_due c =
-    let some = c.is_due.ensures c.if-is_due.true in
-    let less = c.begin_next.ensures in
+    let some = c.is_due.ensures.some c.if-is_due.true in
+    let less = c.begin_next.ensures.left in
     restart_less c.turn.solver.search c.restart.new.self.search c.turn.restarts.left c.begin_next.new.self.left some (omega arith)
