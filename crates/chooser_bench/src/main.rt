@@ -3,14 +3,12 @@
 // Usage: chooser_bench plain|learning FILE ..
 #![tactic(auto)]
 
-ghost use Rattle.std.specs.Prelude.{◌≡◌, vec_capacity};
-ghost use Rattle.rows.specs.declared.store.TheConstants.{MOST_VARIABLES};
-
 use chooser::{Answer, Chooser, Fault};
 use learning::Learning;
 use plain::Plain;
 use rows::{MOST_ENTRIES, MOST_VARIABLES};
 use std::alloc::{AllocError, Global};
+use std::str::SplitAsciiWhitespace;
 use std::time::Instant;
 use std::{env, fmt, fs};
 
@@ -55,69 +53,19 @@ impl fmt::Display for Score {
     }
 }
 
-// A line of the script that is being read.
-#[derive(Drop)]
-struct Line {
-    call: u8,
-    // At most as many as there can be variables; those behind them are dropped.
-    literals: Vec<u16>,
-    // Kept as it is: a number is read byte by byte, and what was read of it is carried from one byte to the next.
-    number: u32,
-    minus: bool,
-    digits: bool,
-    ghost room: { vec_capacity literals ≡ MOST_VARIABLES },
+// The literal that a word names.
+fn literal(word: &str) -> Option<u16> {
+    let number = word.parse::<i16>().ok()?;
+    let variable = number.unsigned_abs().checked_sub(1)?;
+    Some(2 * variable + u16::from(number < 0))
 }
 
-impl Line {
-    fn new(heap: Global) -> Result<Line, AllocError> {
-        Ok(Line {
-            call: b'c',
-            literals: Vec::with_capacity(heap, MOST_VARIABLES)?,
-            number: 0,
-            minus: false,
-            digits: false,
-        })
-    }
-
-    // Takes the number that was read for a literal, if it names one and there is room.
-    fn push(&mut self) {
-        let room = self.literals.len() < MOST_VARIABLES;
-        if self.digits && room && self.number > 0 && self.number <= MOST_VARIABLES as u32 {
-            let v = (self.number - 1) as u16;
-            self.literals
-                .push_reserved(if self.minus { 2 * v + 1 } else { 2 * v });
-        }
-        self.digits = false;
-        self.minus = false;
-    }
-
-    fn feed(&mut self, b: u8) {
-        match b {
-            b'-' => {
-                self.minus = true;
-                self.number = 0;
-            }
-            b'0'..=b'9' => {
-                if !self.digits {
-                    self.number = 0;
-                }
-                self.digits = true;
-                self.number = self.number.min(100000) * 10 + (b - b'0') as u32;
-            }
-            b' ' | b'\n' => self.push(),
-            _ => {
-                self.call = b;
-                self.clear();
-            }
-        }
-    }
-
-    // Drops the literals; the call and the number stay.
-    fn clear(&mut self) {
-        self.literals.clear();
-    }
+// The literals that the words behind a call name.
+fn literals(heap: Global, words: SplitAsciiWhitespace<'_>) -> Result<Vec<u16>, AllocError> {
+    words.filter_map(literal).collect(heap)
 }
 
+// Kept as it is: decide's `allot` asks that so many are left; a script that wants more is refused at the first that is not.
 fn allot<C: Chooser>(chooser: &mut C, variables: u32) -> Result<(), Fault> {
     for _ in 0..variables {
         chooser.new_variable()?;
@@ -136,25 +84,22 @@ fn ask<C: Chooser>(
     chooser.ask(assumptions, &mut values[..count])
 }
 
-// Runs the call of each line that a newline ends.
-fn play<C: Chooser>(heap: Global, chooser: &mut C, text: &[u8]) -> Result<Score, AllocError> {
+// Runs each line's call; a line that begins with another word is passed over.
+fn play<C: Chooser>(heap: Global, chooser: &mut C, script: &str) -> Result<Score, AllocError> {
     let mut values = vec![in heap; 0u8; MOST_VARIABLES]?;
-    let mut line = Line::new(heap)?;
     let mut score = Score::default();
-    for b in text {
-        line.feed(*b);
-        if *b == b'\n' {
-            match line.call {
-                b'v' => score.took(allot(chooser, line.number)),
-                b'a' => score.took(chooser.add(line.literals.as_slice())),
-                b'q' => score.answered(ask(
-                    chooser,
-                    line.literals.as_slice(),
-                    values.as_mut_slice(),
-                )),
-                _ => {}
+    for line in script.lines() {
+        let mut words = line.split_ascii_whitespace();
+        match words.next() {
+            Some("v") => {
+                let variables = words.next().and_then(|word| word.parse::<u32>().ok());
+                score.took(allot(chooser, variables.unwrap_or(0)));
             }
-            line.clear();
+            Some("a") => score.took(chooser.add(&literals(heap, words)?)),
+            Some("q") => {
+                score.answered(ask(chooser, &literals(heap, words)?, &mut values));
+            }
+            _ => {}
         }
     }
     Ok(score)
@@ -164,10 +109,10 @@ fn report<C: Chooser>(
     rt: &HostRuntime,
     chooser: &mut C,
     path: &str,
-    text: &[u8],
+    script: &str,
 ) -> anyhow::Result<()> {
     let start = Instant::now(rt)?;
-    let score = play(rt.alloc(), chooser, text)?;
+    let score = play(rt.alloc(), chooser, script)?;
     let took = start.elapsed(rt)?.as_micros();
     eprintln!(rt; "{took} {path}")?;
     println!(rt; "{path} {score}")?;
@@ -181,15 +126,15 @@ fn run(rt: &HostRuntime) -> anyhow::Result<()> {
             "plain" => kind = Kind::Plain,
             "learning" => kind = Kind::Learning,
             path => {
-                let text = fs::read(rt, path)?;
+                let script = fs::read_to_string(rt, path)?;
                 match kind {
                     Kind::Plain => {
                         let mut chooser = Plain::new(rt.alloc(), MOST_ENTRIES)?;
-                        report(rt, &mut chooser, path, text.as_slice())?;
+                        report(rt, &mut chooser, path, script.as_str())?;
                     }
                     Kind::Learning => {
                         let mut chooser = Learning::new(rt.alloc(), MOST_ENTRIES)?;
-                        report(rt, &mut chooser, path, text.as_slice())?;
+                        report(rt, &mut chooser, path, script.as_str())?;
                     }
                 }
             }

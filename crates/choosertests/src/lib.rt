@@ -1,18 +1,13 @@
-// The refusals of a chooser at their edges, and its answers, on each kind of chooser.
+// The refusals of a chooser at their edges, and its answers, on each kind of chooser: the plain one and then the learning one.
 #![tactic(auto)]
 
 #[cfg(test)]
 mod tests {
-    use chooser::{Answer, Chooser, Fault};
+    use chooser::{Answer, Chooser, Fault, MakeFault};
     use learning::Learning;
     use plain::Plain;
     use std::process::Abort;
     use std::test::Fail;
-
-    // The refusal's number, if the call was refused.
-    fn refusal<T: Drop>(r: Result<T, Fault>) -> Option<u8> {
-        Some(r.err()?.number())
-    }
 
     fn allot<C: Chooser>(rt: &impl Abort, c: &mut C, n: u16) {
         for i in 0..n {
@@ -24,9 +19,9 @@ mod tests {
     fn all_variables<C: Chooser>(rt: &impl Abort, c: &mut C) {
         allot(rt, c, 4096);
         assert_eq!(rt; c.variables_left(), 0);
-        assert_eq!(rt; refusal(c.new_variable()), Some(61));
-        assert_eq!(rt; refusal(c.add(&[8191])), None);
-        assert_eq!(rt; refusal(c.add(&[8192])), Some(62));
+        assert_eq!(rt; c.new_variable(), Err(Fault::NoVariable));
+        assert_eq!(rt; c.add(&[8191]), Ok(()));
+        assert_eq!(rt; c.add(&[8192]), Err(Fault::Unallotted));
         let mut answer = [2u8; 4096];
         assert_eq!(rt; c.ask(&[8190], &mut answer), Ok(Answer::No));
         assert_eq!(rt; c.ask(&[], &mut answer), Ok(Answer::Yes));
@@ -36,14 +31,14 @@ mod tests {
     // A chooser of five entries.
     fn five_entries<C: Chooser>(rt: &impl Abort, c: &mut C) {
         assert_eq!(rt; c.entries_left(), 5);
-        assert_eq!(rt; refusal(c.add(&[0])), Some(62));
+        assert_eq!(rt; c.add(&[0]), Err(Fault::Unallotted));
         allot(rt, c, 3);
-        assert_eq!(rt; refusal(c.add(&[0, 2, 4, 1, 3])), Some(63));
-        assert_eq!(rt; refusal(c.add(&[6, 0, 0, 0, 0])), Some(62));
+        assert_eq!(rt; c.add(&[0, 2, 4, 1, 3]), Err(Fault::NoEntries));
+        assert_eq!(rt; c.add(&[6, 0, 0, 0, 0]), Err(Fault::Unallotted));
         assert_eq!(rt; c.entries_left(), 5);
-        assert_eq!(rt; refusal(c.add(&[0, 2, 4, 1])), None);
+        assert_eq!(rt; c.add(&[0, 2, 4, 1]), Ok(()));
         assert_eq!(rt; c.entries_left(), 0);
-        assert_eq!(rt; refusal(c.add(&[])), Some(63));
+        assert_eq!(rt; c.add(&[]), Err(Fault::NoEntries));
     }
 
     // Answers one too short and one too long, which are left as they were.
@@ -51,9 +46,9 @@ mod tests {
         allot(rt, c, 2);
         let mut short = [7u8; 1];
         let mut long = [7u8; 3];
-        assert_eq!(rt; refusal(c.ask(&[4], &mut short)), Some(62));
-        assert_eq!(rt; refusal(c.ask(&[3], &mut short)), Some(64));
-        assert_eq!(rt; refusal(c.ask(&[3], &mut long)), Some(64));
+        assert_eq!(rt; c.ask(&[4], &mut short), Err(Fault::Unallotted));
+        assert_eq!(rt; c.ask(&[3], &mut short), Err(Fault::WrongLength));
+        assert_eq!(rt; c.ask(&[3], &mut long), Err(Fault::WrongLength));
         assert_eq!(rt; (short, long), ([7], [7, 7, 7]));
     }
 
@@ -61,70 +56,55 @@ mod tests {
     fn answers<C: Chooser>(rt: &impl Abort, c: &mut C) {
         assert_eq!(rt; c.ask(&[], &mut []), Ok(Answer::Yes));
         allot(rt, c, 2);
-        assert_eq!(rt; refusal(c.add(&[0, 2])), None);
+        assert_eq!(rt; c.add(&[0, 2]), Ok(()));
         let mut answer = [7u8; 2];
         assert_eq!(rt; c.ask(&[3], &mut answer), Ok(Answer::Yes));
         assert_eq!(rt; answer, [1, 0]);
         assert_eq!(rt; c.ask(&[3, 1], &mut answer), Ok(Answer::No));
-        assert_eq!(rt; refusal(c.add(&[])), None);
+        assert_eq!(rt; c.add(&[]), Ok(()));
         assert_eq!(rt; c.ask(&[], &mut answer), Ok(Answer::No));
     }
 
     #[test]
-    fn plain_all_variables(rt: HostRuntime) -> Result<(), Fail> {
+    fn each_allots_all_variables(rt: HostRuntime) -> Result<(), Fail> {
         all_variables(&rt, &mut Plain::new(rt.alloc(), 2)?);
-        Ok(())
-    }
-
-    #[test]
-    fn plain_five_entries(rt: HostRuntime) -> Result<(), Fail> {
-        five_entries(&rt, &mut Plain::new(rt.alloc(), 5)?);
-        Ok(())
-    }
-
-    #[test]
-    fn plain_wrong_lengths(rt: HostRuntime) -> Result<(), Fail> {
-        wrong_lengths(&rt, &mut Plain::new(rt.alloc(), 0)?);
-        Ok(())
-    }
-
-    #[test]
-    fn plain_answers(rt: HostRuntime) -> Result<(), Fail> {
-        answers(&rt, &mut Plain::new(rt.alloc(), 65535)?);
-        Ok(())
-    }
-
-    #[test]
-    fn plain_too_many_entries(rt: HostRuntime) {
-        assert!(rt; Plain::new(rt.alloc(), 65536).is_err());
-    }
-
-    #[test]
-    fn learning_all_variables(rt: HostRuntime) -> Result<(), Fail> {
         all_variables(&rt, &mut Learning::new(rt.alloc(), 2)?);
         Ok(())
     }
 
     #[test]
-    fn learning_five_entries(rt: HostRuntime) -> Result<(), Fail> {
+    fn each_spends_five_entries(rt: HostRuntime) -> Result<(), Fail> {
+        five_entries(&rt, &mut Plain::new(rt.alloc(), 5)?);
         five_entries(&rt, &mut Learning::new(rt.alloc(), 5)?);
         Ok(())
     }
 
     #[test]
-    fn learning_wrong_lengths(rt: HostRuntime) -> Result<(), Fail> {
+    fn each_refuses_wrong_lengths(rt: HostRuntime) -> Result<(), Fail> {
+        wrong_lengths(&rt, &mut Plain::new(rt.alloc(), 0)?);
         wrong_lengths(&rt, &mut Learning::new(rt.alloc(), 0)?);
         Ok(())
     }
 
     #[test]
-    fn learning_answers(rt: HostRuntime) -> Result<(), Fail> {
+    fn each_answers(rt: HostRuntime) -> Result<(), Fail> {
+        answers(&rt, &mut Plain::new(rt.alloc(), 65535)?);
         answers(&rt, &mut Learning::new(rt.alloc(), 65535)?);
         Ok(())
     }
 
     #[test]
-    fn learning_too_many_entries(rt: HostRuntime) {
-        assert!(rt; Learning::new(rt.alloc(), 65536).is_err());
+    fn none_has_too_many_entries(rt: HostRuntime) {
+        let fault = Some(MakeFault::TooManyEntries);
+        assert_eq!(rt; Plain::new(rt.alloc(), 65536).err(), fault);
+        assert_eq!(rt; Learning::new(rt.alloc(), 65536).err(), fault);
+    }
+
+    #[test]
+    fn refusals_have_numbers(rt: HostRuntime) {
+        assert_eq!(rt; Fault::NoVariable.number(), 61);
+        assert_eq!(rt; Fault::Unallotted.number(), 62);
+        assert_eq!(rt; Fault::NoEntries.number(), 63);
+        assert_eq!(rt; Fault::WrongLength.number(), 64);
     }
 }

@@ -282,7 +282,7 @@ fn expect(s: State, wanted: bool, mode: Mode) -> Result<Step, Kind>
 }
 
 // Kept as it is: the mode says what a byte means, so that the reader is a machine of one byte after another, and the theorem about
-// spelled texts goes along it byte for byte; text that is split into words would have to be held.
+// spelled texts goes along it byte for byte.
 pub(crate) fn advance(s: State, b: u8) -> Result<Step, Kind>
     ensures { result ≡ stepped s b }
 {
