@@ -2,7 +2,7 @@ ghost use Rattle.std.specs.Prelude.{◌≡◌, ◌-◌, ◌/◌, ◌<◌, true, 
 ghost use Rattle.rows.specs.Lits.{Turned};
 ghost use Rattle.rows.specs.declared.store.TheConstants.{MOST_LITERALS, MOST_VARIABLES};
 ghost use Rattle.trail.specs.Trails.{step_at, literal_at};
-ghost use Rattle.trail.specs.Values.{Refuted, Holds, Valued};
+ghost use Rattle.trail.specs.Values.{Refuted, Holds, Free, Valued};
 
 use crate::step::{Reason, Step, Value, making};
 use rows::{MOST_VARIABLES, turned};
@@ -44,17 +44,23 @@ impl Trail {
     pub fn is_false(&self, l: u16) -> bool
         ensures { result ≡ true → Refuted self.now.values l }
     {
-        let v = (l / 2) as usize;
-        v < MOST_VARIABLES && self.values[v] == making(turned(l))
+        self.is_true(turned(l))
     }
 
     // Returns whether the literal is true.
-    // Kept as it is: two tests of one line each; a test that takes the wanted value would be longer at each call.
     pub fn is_true(&self, l: u16) -> bool
         ensures { result ≡ true → Holds self.now.values l }
     {
         let v = (l / 2) as usize;
         v < MOST_VARIABLES && self.values[v] == making(l)
+    }
+
+    // Returns whether the literal is of an open variable.
+    pub fn is_open(&self, l: u16) -> bool
+        ensures open { result ≡ true → Free self.now.values l }
+        ensures shut { Free self.now.values l → result ≡ true }
+    {
+        self.values.get((l / 2) as usize) == Some(&Value::Open)
     }
 
     // Returns whether the literal is true, false or open; None for what is no literal of a variable.
