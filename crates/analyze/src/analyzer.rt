@@ -6,7 +6,7 @@ ghost use Rattle.implied.specs.Implied.{allowed};
 ghost use Rattle.trail.specs.Trails.{literal_at, Dead};
 ghost use Rattle.analyze.specs.Analysis.{Wrong, Grows, Absorbed, Drawn, Opposed, Jump};
 
-use rows::{MOST_VARIABLES, turned};
+use rows::{MOST_VARIABLES, turned, variable};
 use std::alloc::{AllocError, Global};
 use trail::{Reason, Search, Trail};
 
@@ -44,7 +44,7 @@ impl Analyzer {
     fn is_seen(&self, l: u16) -> bool
         ensures { result ≡ slice_index_or self.now.seen.items (l / 2) Bool.false }
     {
-        self.seen.get((l / 2) as usize).copied().unwrap_or(false)
+        self.seen.get(variable(l)).copied().unwrap_or(false)
     }
 
     // Marks the variable of `m` seen, if the opposite of `m` stands on the trail before the place `i`.
@@ -53,7 +53,7 @@ impl Analyzer {
         ensures found { result ≡ true → (j : ℕ) × (j < i) × Turned (literal_at trail.now.steps.items j) m × (slice_index_or self.new.seen.items (literal_at trail.now.steps.items j / 2) Bool.false ≡ true) }
         ensures clause { self.new.clause ≡ self.old.clause }
     {
-        let v = (m / 2) as usize;
+        let v = variable(m);
         let Some(j) = trail.place_against(m) else {
             return false;
         };
