@@ -1,7 +1,8 @@
 ghost use Rattle.std.specs.Prelude.{◌≡◌, ℕ, ◌+◌, ◌/◌, ◌<◌, ◌≤◌, [], length, replicate, vec_len, vec_capacity, All, IfOk, IfSome};
+ghost use Rattle.rows.specs.declared.store.TheConstants.{MOST_VARIABLES};
 ghost use Rattle.trail.specs.Values.{Free};
 
-use rows::MOST_VARIABLES;
+use rows::{MOST_VARIABLES, is_positive, literal, variable};
 use std::alloc::{AllocError, Global};
 use trail::{Trail, Value};
 
@@ -45,16 +46,16 @@ pub struct Order {
     variables: Vec<Variable>,
     // What the next clash adds to an activity.
     step: u64,
-    ghost every: { length variables.items ≡ 4096 },
-    ghost named: { All (λ v. v < 4096) heap.items },
-    ghost room: { vec_capacity heap ≡ 4096 },
+    ghost every: { length variables.items ≡ MOST_VARIABLES },
+    ghost named: { All (λ v. v < MOST_VARIABLES) heap.items },
+    ghost room: { vec_capacity heap ≡ MOST_VARIABLES },
 }
 
 impl Order {
     // Makes an order of which no variable is in the heap.
     pub fn new(heap: Global) -> Result<Order, AllocError>
         ensures heap { IfOk result (λ o. o.heap.items ≡ []) }
-        ensures variables { IfOk result (λ o. o.variables.items ≡ replicate 4096 FRESH) }
+        ensures variables { IfOk result (λ o. o.variables.items ≡ replicate MOST_VARIABLES FRESH) }
     {
         Ok(Order {
             heap: Vec::with_capacity(heap, MOST_VARIABLES)?,
@@ -64,7 +65,7 @@ impl Order {
     }
 
     fn activity(&self, v: u16) -> u64
-        requires { v < 4096 }
+        requires { v < MOST_VARIABLES }
     {
         self.variables[v as usize].activity
     }
@@ -72,7 +73,7 @@ impl Order {
     // Puts the variable at the place `i` of the heap.
     fn seat(&mut self, i: usize, v: u16)
         requires within { i < length self.old.heap.items }
-        requires named { v < 4096 }
+        requires named { v < MOST_VARIABLES }
         ensures { length self.new.heap.items ≡ length self.old.heap.items }
     {
         self.heap[i] = v;
@@ -149,7 +150,7 @@ impl Order {
     // Takes the most active variable out of the heap.
     fn take_top(&mut self) -> Option<u16>
         ensures shorter { IfSome result (λ v. length self.new.heap.items < length self.old.heap.items) }
-        ensures named { IfSome result (λ v. v < 4096) }
+        ensures named { IfSome result (λ v. v < MOST_VARIABLES) }
     {
         let last = self.heap.pop()?;
         if self.heap.is_empty() {
@@ -168,9 +169,9 @@ impl Order {
         ensures { IfSome result (λ l. Free trail.now.values l) }
     {
         while let Some(v) = self.take_top() {
-            if trail.values[v as usize] == Value::Open {
-                let phase = self.variables[v as usize].phase;
-                return Some(if phase { 2 * v } else { 2 * v + 1 });
+            let l = literal(v, self.variables[v as usize].phase);
+            if trail.is_open(l) {
+                return Some(l);
             }
         }
         None
@@ -180,7 +181,7 @@ impl Order {
     pub(crate) fn release(&mut self, l: u16) {
         let v = l / 2;
         if (v as usize) < MOST_VARIABLES {
-            self.variables[v as usize].phase = l % 2 == 0;
+            self.variables[v as usize].phase = is_positive(l);
             self.insert(v);
         }
     }
@@ -203,7 +204,7 @@ impl Order {
     }
 
     fn bump(&mut self, v: usize)
-        requires { v < 4096 }
+        requires { v < MOST_VARIABLES }
     {
         let variable = &mut self.variables[v];
         variable.activity = variable.activity.wrapping_add(self.step);
@@ -221,7 +222,7 @@ impl Order {
     // More activity for the variables of the trail that were seen. None of them is seen then.
     pub fn reward(&mut self, trail: &Trail, seen: &mut [bool]) {
         for step in &trail.steps {
-            let v = (step.literal / 2) as usize;
+            let v = variable(step.literal);
             if v < MOST_VARIABLES && v < seen.len() && seen[v] {
                 seen[v] = false;
                 self.bump(v);

@@ -1,11 +1,12 @@
 ghost use Rattle.std.specs.Prelude.{◌≡◌, ℕ, ◌+◌, ◌-◌, ◌/◌, ◌<◌, ◌≤◌, ◌⊎◌, Bool, true, [], length, replicate, slice_index_or, vec_capacity, IfOk};
 ghost use Rattle.chooser.specs.Ways.{lit, some};
 ghost use Rattle.rows.specs.Lits.{Turned};
+ghost use Rattle.rows.specs.declared.store.TheConstants.{MOST_VARIABLES};
 ghost use Rattle.implied.specs.Implied.{allowed};
 ghost use Rattle.trail.specs.Trails.{literal_at, Dead};
 ghost use Rattle.analyze.specs.Analysis.{Wrong, Grows, Absorbed, Drawn, Opposed, Jump};
 
-use rows::{MOST_VARIABLES, turned};
+use rows::{MOST_VARIABLES, turned, variable};
 use std::alloc::{AllocError, Global};
 use trail::{Reason, Search, Trail};
 
@@ -20,16 +21,16 @@ pub struct Analyzer {
     left: u32,
     // The clash in which each level was last met.
     met: Vec<u32>,
-    ghost room: { vec_capacity clause ≡ 4096 },
+    ghost room: { vec_capacity clause ≡ MOST_VARIABLES },
 }
 
 impl Analyzer {
     // Makes an analyzer that has no clause, saw no variable and met no level.
     pub fn new(heap: Global) -> Result<Analyzer, AllocError>
         ensures clause { IfOk result (λ a. a.clause.items ≡ []) }
-        ensures seen { IfOk result (λ a. a.seen.items ≡ replicate 4096 Bool.false) }
+        ensures seen { IfOk result (λ a. a.seen.items ≡ replicate MOST_VARIABLES Bool.false) }
         ensures left { IfOk result (λ a. a.left ≡ 0) }
-        ensures met { IfOk result (λ a. a.met.items ≡ replicate 4097 0) }
+        ensures met { IfOk result (λ a. a.met.items ≡ replicate (MOST_VARIABLES + 1) 0) }
     {
         Ok(Analyzer {
             clause: Vec::with_capacity(heap, MOST_VARIABLES)?,
@@ -43,7 +44,7 @@ impl Analyzer {
     fn is_seen(&self, l: u16) -> bool
         ensures { result ≡ slice_index_or self.now.seen.items (l / 2) Bool.false }
     {
-        self.seen.get((l / 2) as usize).copied().unwrap_or(false)
+        self.seen.get(variable(l)).copied().unwrap_or(false)
     }
 
     // Marks the variable of `m` seen, if the opposite of `m` stands on the trail before the place `i`.
@@ -52,7 +53,7 @@ impl Analyzer {
         ensures found { result ≡ true → (j : ℕ) × (j < i) × Turned (literal_at trail.now.steps.items j) m × (slice_index_or self.new.seen.items (literal_at trail.now.steps.items j / 2) Bool.false ≡ true) }
         ensures clause { self.new.clause ≡ self.old.clause }
     {
-        let v = (m / 2) as usize;
+        let v = variable(m);
         let Some(j) = trail.place_against(m) else {
             return false;
         };
@@ -86,18 +87,14 @@ impl Analyzer {
     }
 
     // Returns whether each literal of the clause but `l` is off or seen: then taking it in adds nothing.
-    // Kept as it is: `absorb` goes over a clause likewise but marks what it sees, and one function for both would be longer.
     fn covers(&self, search: &Search, c: u32, l: u16) -> bool {
         let facts = &search.facts;
         let Some(clause) = facts.pool.clause(c) else {
             return false;
         };
-        for m in clause {
-            if *m != l && !facts.is_off(*m) && !self.is_seen(*m) {
-                return false;
-            }
-        }
-        true
+        clause
+            .iter()
+            .all(|m| *m == l || facts.is_off(*m) || self.is_seen(*m))
     }
 
     // Takes the reason of the literal at the place `i` in where that is wanted: on the last level while another seen literal of
@@ -124,25 +121,20 @@ impl Analyzer {
             && self.absorb(search, c, Some(step.literal), i)
     }
 
-    // Goes back over the trail, and writes a clause that every allowed way meets; the last literal first. Returns false where
-    // the clause gets too long.
-    // Kept as it is: whether it was drawn is answered beside the clause, which lies in memory that is reserved once.
-    fn walk(&mut self, search: &Search) -> bool
+    // Goes back over the trail, and writes a clause that every allowed way meets; the last literal first.
+    fn walk(&mut self, search: &Search)
         requires begun { (p : ℕ → Bool) → allowed search.now.facts.store.row.items p ≡ true → Wrong p search.now.trail.steps.items self.old.seen.items (length search.now.trail.steps.items) }
-        ensures { result ≡ true → Drawn (allowed search.now.facts.store.row.items) self.new.clause.items }
+        ensures { Drawn (allowed search.now.facts.store.row.items) self.new.clause.items }
     {
         self.clause.clear();
-        // Kept as it is: the place is wanted with the step, here and in `decisions`; `iter().enumerate().rev()` names the same two.
+        // Kept as it is: places counted down, here and in `decisions`. `iter().enumerate().rev()` was tried: a loop over it is proved
+        // from the pairs that it has yielded, and no place is known to speak of what was gone over.
         for i in (0..search.trail.steps.len()).rev() {
             let l = search.trail.step(i).literal;
             if self.is_seen(l) && !self.attempt(search, i) {
-                if self.clause.len() >= MOST_VARIABLES {
-                    return false;
-                }
                 self.clause.push_reserved(turned(l));
             }
         }
-        true
     }
 
     // Draws the clause that the clash with the clause `c` teaches.
@@ -150,7 +142,11 @@ impl Analyzer {
         ensures { result ≡ true → Drawn (allowed search.now.facts.store.row.items) self.new.clause.items }
     {
         self.left = 0;
-        self.absorb(search, c, None, search.trail.steps.len()) && self.walk(search)
+        if !self.absorb(search, c, None, search.trail.steps.len()) {
+            return false;
+        }
+        self.walk(search);
+        true
     }
 
     // Returns whether the literals but the first are false before the place `k`, and the opposite of the first stands at it or
@@ -161,16 +157,10 @@ impl Analyzer {
         let Some((first, others)) = self.clause.split_first() else {
             return false;
         };
-        for m in others {
-            match trail.place_against(*m) {
-                Some(j) if j < k => {}
-                _ => return false,
-            }
-        }
-        match trail.place_against(*first) {
-            Some(j) => j >= k,
-            None => false,
-        }
+        others
+            .iter()
+            .all(|m| trail.place_against(*m).is_some_and(|j| j < k))
+            && trail.place_against(*first).is_some_and(|j| j >= k)
     }
 
     // Returns the place of the decision after the level of the clause's second literal.

@@ -41,8 +41,8 @@ pub fn run(solver: &mut Solver, given: &[u16], out: &mut [u8]) -> Outcome
             Next::Decide(l) => {
                 let _ = solver.search.push(l, Reason::Decision);
             }
-            Next::Clash => {
-                if !solver.backjump(given, &mut plan) {
+            Next::Clash(clash) => {
+                if !solver.backjump(given, &mut plan, clash) {
                     return Outcome::Never;
                 }
                 restarts.count_clash();

@@ -36,9 +36,9 @@ impl Solver {
         Some(c)
     }
 
-    // Draws what the clash teaches, jumps back and puts the clause's first literal on the trail. Returns false where no way is
-    // allowed at all.
-    pub fn backjump(&mut self, given: &[u16], plan: &mut Plan) -> bool
+    // Draws what the clash teaches, jumps back and puts the clause's first literal on the trail. `clash` is the clause that is
+    // false, if it is in the pool. Returns false where no way is allowed at all.
+    pub fn backjump(&mut self, given: &[u16], plan: &mut Plan, clash: Option<u32>) -> bool
         requires planned { Planned given.now self.old.search.trail.steps.items plan.old }
         requires dead { Dead (allowed self.old.search.facts.store.row.items) self.old.search.trail.steps.items }
         ensures store { self.new.search.facts.store ≡ self.old.search.facts.store }
@@ -46,7 +46,7 @@ impl Solver {
         ensures planned { Planned given.now self.new.search.trail.steps.items plan.new }
         ensures jumped { Jumps self.old.search self.new.search result }
     {
-        let Some(k) = self.analyzer.analyze(&self.search, plan.clash) else {
+        let Some(k) = self.analyzer.analyze(&self.search, clash) else {
             return false;
         };
         let now = self.tally.clashes.wrapping_add(1);

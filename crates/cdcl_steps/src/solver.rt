@@ -77,7 +77,6 @@ impl Solver {
             firm: 0,
             queue: 0,
             fixed: self.search.trail.steps.len(),
-            clash: None,
         }
     }
 
@@ -93,11 +92,10 @@ impl Solver {
         ensures chosen { Chosen self.new.search given.now plan.new out.new result }
     {
         let clash = self.watches.propagate(&mut self.search, plan.queue);
-        plan.clash = clash;
         plan.queue = self.search.trail.steps.len();
         settle(&mut self.search, plan);
         if clash.is_some() {
-            return Next::Clash;
+            return Next::Clash(clash);
         }
         choose(&self.search, given, &mut self.order, plan, out)
     }

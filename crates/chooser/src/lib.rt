@@ -85,6 +85,8 @@ impl From<AllocError> for MakeFault {
     }
 }
 
+// Literals are numbers here, and not of a type of their own: a clause is lent as it stands in the memory of the caller, and rows keep
+// numbers and lengths side by side. `rows` has the functions that make and read them.
 pub trait Chooser {
     // The greatest number of variables.
     const MAX_VARIABLES: u16;
@@ -124,10 +126,9 @@ pub trait Chooser {
 }
 
 // Shows two consequences of the relations that the calls promise: after `new_variable` each allowed way is allowed with
-// either value of the new variable, and no two faults have one number.
-pub fn relations_stand() -> u8
+// either value of the new variable, and no two faults have one number. It is a function so that src/ states the claim, in a contract;
+// it does nothing.
+pub fn relations_stand()
     ensures either { EitherValue }
     ensures apart { ToldApart }
-{
-    0
-}
+{}

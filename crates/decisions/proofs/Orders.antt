@@ -26,22 +26,24 @@ ordered_none given steps forced =
       decided = λ j lt one. absurd (forced j (record { literal = 0; level = 0; reason = Known }) lt one);
     }
 
-module _ (given : List ℕ) (steps : List Step) (next firm : ℕ) (o : Ordered given steps next firm) where
-  pub ordered_grew : (steps' : List Step) → Grew steps steps' → Ordered given steps' next firm
-  ordered_grew steps' g =
-      let before = o.before in
-      let more = g.more in
+-- what stands below n keeps its order where the steps below n are the same, and all of it does if what stands from n on does
+module _ (given : List ℕ) (a b : List Step) (next firm n : ℕ) (within : n ≤ length a) (same : (j : ℕ) → j < n → step_at b j ≡ step_at a j) (o : Ordered given a next firm) where
+  decided_same : (j : ℕ) → j < n → (step_at b j).reason ≡ Decision → Among given (literal_at b j) ⊎ ((next ≡ length given) × (firm ≤ j))
+  decided_same j lt one =
+      ⊎_elim (λ x. inl (x.0, x.1, ap (λ (s : Step). s.literal) (same j lt) ∙ x.2)) (λ y. inr y) (o.decided j (omega arith) (ap (λ (s : Step). s.reason) (sym (same j lt)) ∙ one))
+
+  ordered_same : firm ≤ n → n ≤ length b → ((j : ℕ) → n ≤ j → j < length b → (step_at b j).reason ≡ Decision → Among given (literal_at b j) ⊎ ((next ≡ length given) × (firm ≤ j))) → Ordered given b next firm
+  ordered_same behind long rest =
       record {
         before = omega arith;
         few = o.few;
-        assumed = λ i lt. let w = o.assumed i lt in let less : w.0 < firm = w.1 in (w.0, less, ap (λ (s : Step). s.literal) (g.same w.0 (omega arith)) ∙ w.2);
-        decided = λ j lt one. ⊎_elim
-            (λ less.
-            let same = g.same j less in
-            ⊎_elim (λ a. inl (a.0, a.1, ap (λ (s : Step). s.literal) same ∙ a.2)) (λ b. inr b) (o.decided j less (ap (λ (s : Step). s.reason) (sym same) ∙ one)))
-            (λ ge. absurd (g.forced j ge lt one))
-            (cases_lt j (length steps));
+        assumed = λ i lt. let w = o.assumed i lt in let less : w.0 < firm = w.1 in (w.0, less, ap (λ (s : Step). s.literal) (same w.0 (omega arith)) ∙ w.2);
+        decided = λ j lt one. ⊎_elim (λ less. decided_same j less one) (λ ge. rest j ge lt one) (cases_lt j n);
       }
+
+module _ (given : List ℕ) (steps : List Step) (next firm : ℕ) (o : Ordered given steps next firm) where
+  pub ordered_grew : (steps' : List Step) → Grew steps steps' → Ordered given steps' next firm
+  ordered_grew steps' g = ordered_same given steps steps' next firm (length steps) (omega arith) g.same o o.before g.more (λ j ge lt one. absurd (g.forced j ge lt one))
 
   module _ (k : ℕ) (le : k ≤ length steps) where
     cut : length (take k steps) ≡ k
@@ -51,16 +53,7 @@ module _ (given : List ℕ) (steps : List Step) (next firm : ℕ) (o : Ordered g
     kept j lt = step_taken steps k j lt
 
     pub ordered_cut : firm ≤ k → Ordered given (take k steps) next firm
-    ordered_cut behind =
-        let size = cut in
-        record {
-          before = omega arith;
-          few = o.few;
-          assumed = λ i lt. let w = o.assumed i lt in let less : w.0 < firm = w.1 in (w.0, less, ap (λ (s : Step). s.literal) (kept w.0 (omega arith)) ∙ w.2);
-          decided = λ j lt one.
-              let same = kept j (omega arith) in
-              ⊎_elim (λ a. inl (a.0, a.1, ap (λ (s : Step). s.literal) same ∙ a.2)) (λ b. inr b) (o.decided j (omega arith) (ap (λ (s : Step). s.reason) (sym same) ∙ one));
-        }
+    ordered_cut behind = let size = cut in ordered_same given steps (take k steps) next firm k le kept o behind (omega arith) (λ j ge lt one. let z : ⊥ = omega arith in absurd z)
 
     pub ordered_again : k < firm → Ordered given (take k steps) 0 0
     ordered_again early =
@@ -69,10 +62,7 @@ module _ (given : List ℕ) (steps : List Step) (next firm : ℕ) (o : Ordered g
           before = omega arith;
           few = omega arith;
           assumed = λ i lt. let z : ⊥ = omega arith in absurd z;
-          decided = λ j lt one.
-              let same = kept j (omega arith) in
-              ⊎_elim (λ a. inl (a.0, a.1, ap (λ (s : Step). s.literal) same ∙ a.2)) (λ b. let ge : firm ≤ j = b.1 in let z : ⊥ = omega arith in absurd z)
-              (o.decided j (omega arith) (ap (λ (s : Step). s.reason) (sym same) ∙ one));
+          decided = λ j lt one. ⊎_elim (λ a. inl a) (λ b. let ge : firm ≤ j = b.1 in let z : ⊥ = omega arith in absurd z) (decided_same given steps (take k steps) next firm k le kept o j (omega arith) one);
         }
 
   pub ordered_more : (i : ℕ) → next < length given → i < length steps → literal_at steps i ≡ get_or given next 0 → Ordered given steps (next + 1) (length steps)
@@ -92,21 +82,14 @@ module _ (given : List ℕ) (steps : List Step) (next firm : ℕ) (o : Ordered g
   ordered_push st how =
       let before = o.before in
       let long : length (steps ++ st ∷ []) ≡ length steps + 1 = length-append steps (st ∷ []) in
-      record {
-        before = omega arith;
-        few = o.few;
-        assumed = λ i lt. let w = o.assumed i lt in let less : w.0 < firm = w.1 in (w.0, less, ap (λ (s : Step). s.literal) (step_old steps st w.0 (omega arith)) ∙ w.2);
-        decided = λ j lt one. ⊎_elim
-            (λ e. let at : step_at (steps ++ st ∷ []) j ≡ st = ap (step_at (steps ++ st ∷ [])) e ∙ step_new steps st in
-            ⊎_elim
-            (λ no. absurd (no (ap (λ (s : Step). s.reason) (sym at) ∙ one)))
-            (λ h. ⊎_elim (λ a. inl (a.0, a.1, ap (λ (s : Step). s.literal) at ∙ a.2)) (λ all. inr (all, omega arith)) h)
-            how)
-            (λ ne. let less : j < length steps = omega arith in
-            let same = step_old steps st j less in
-            ⊎_elim (λ a. inl (a.0, a.1, ap (λ (s : Step). s.literal) same ∙ a.2)) (λ b. inr b) (o.decided j less (ap (λ (s : Step). s.reason) (sym same) ∙ one)))
-            (cases_eq j (length steps));
-      }
+      ordered_same given steps (steps ++ st ∷ []) next firm (length steps) (omega arith) (step_old steps st) o before (omega arith)
+      (λ j ge lt one.
+      let e : j ≡ length steps = omega arith in
+      let at : step_at (steps ++ st ∷ []) j ≡ st = ap (step_at (steps ++ st ∷ [])) e ∙ step_new steps st in
+      ⊎_elim
+      (λ no. absurd (no (ap (λ (s : Step). s.reason) (sym at) ∙ one)))
+      (λ h. ⊎_elim (λ a. inl (a.0, a.1, ap (λ (s : Step). s.literal) at ∙ a.2)) (λ all. inr (all, omega arith)) h)
+      how)
 
 -- the same at a search that a literal was put on
 pub ordered_placed : (given : List ℕ) (s u : Search) (next firm l : ℕ) (reason : Reason) → Placed s u l reason

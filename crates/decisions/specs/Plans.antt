@@ -36,13 +36,13 @@ Barred row given = (p : ℕ → Bool) → (allowed row p && every (lit p) given)
 -- what an assumption that is not true leads to
 abbrev pub Assumed : Search → List ℕ → Next → Type 0
 Assumed s given (Decide l) = Free s.trail.values l × Among given l
-Assumed s given Clash = ⊥
+Assumed s given (Clash c) = ⊥
 Assumed s given Yes = ⊥
 Assumed s given No = Barred s.facts.store.row.items given
 
 -- a literal may be decided if it is an assumption, or all of them are on the trail
 abbrev pub Chosen : Search → List ℕ → Plan → List ℕ → Next → Type 0
 Chosen s given plan out (Decide l) = Free s.trail.values l × (Among given l ⊎ (plan.next ≡ length given))
-Chosen s given plan out Clash = Dead (allowed s.facts.store.row.items) s.trail.steps.items
+Chosen s given plan out (Clash c) = Dead (allowed s.facts.store.row.items) s.trail.steps.items
 Chosen s given plan out Yes = Hit s.facts.store.row.items given out
 Chosen s given plan out No = Barred s.facts.store.row.items given

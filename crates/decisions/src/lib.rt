@@ -3,6 +3,7 @@
 #![tactic(auto)]
 
 ghost use Rattle.std.specs.Prelude.{◌≡◌, ℕ, ◌<◌, ◌≤◌, true, length, slice_index, MatchOption};
+ghost use Rattle.rows.specs.declared.store.TheConstants.{MOST_LITERALS};
 ghost use Rattle.trail.specs.Values.{Free};
 ghost use Rattle.activity.specs.Cuts.{Kept};
 ghost use Rattle.outcome.specs.Outcome.{Question};
@@ -70,7 +71,7 @@ pub fn settle(search: &mut Search, plan: &mut Plan)
 
 // Goes over the assumptions: the first one that is not true is to be decided, and where it is false no way is left.
 fn assume(search: &Search, given: &[u16], plan: &mut Plan) -> Option<Next>
-    requires small { (i : ℕ) → i < length given.now → slice_index given.now i < 8192 }
+    requires small { (i : ℕ) → i < length given.now → slice_index given.now i < MOST_LITERALS }
     requires planned { Planned given.now search.now.trail.steps.items plan.old }
     ensures planned { Planned given.now search.now.trail.steps.items plan.new }
     ensures assumed { MatchOption result (plan.new.next ≡ length given.now) (Assumed search.now given.now) }
@@ -112,6 +113,8 @@ pub fn choose(
 }
 
 // Cuts the trail at the place `k`.
+// Kept as it is: the search and the order, which the solver has. A method of the solver would have to promise of what else it has
+// that it stays.
 pub fn cut_back(search: &mut Search, given: &[u16], order: &mut Order, plan: &mut Plan, k: usize)
     requires planned { Planned given.now search.old.trail.steps.items plan.old }
     requires within { k ≤ length search.old.trail.steps.items }

@@ -14,8 +14,8 @@ fn sift(facts: &Facts, spare: &mut Pool, watches: &mut Watches, now: u32, window
     ensures { Met (allowed facts.now.store.row.items) spare.new }
 {
     let mut learned: usize = 0;
-    // Kept as it is: clauses are asked for by number. A pool is seen as a list, and an iterator over it would be one more type with
-    // a proof, for two loops that want the numbers besides.
+    // Kept as it is: clauses are asked for by number. For an iterator over a pool, as rows has it, the pool would have to say as well
+    // that its run of numbers is the row of its clauses.
     for c in 0..u32::MAX {
         let Some(clause) = facts.pool.clause(c) else {
             break;

@@ -47,12 +47,12 @@ pub record Hit (row given out : List ℕ) : Type 0 where
 -- what an unmet clause leads to
 abbrev pub Onto : ((ℕ → Bool) → Bool) → List Value → List Step → Next → Type 0
 Onto X values steps (Decide l) = Free values l
-Onto X values steps Clash = Dead X steps
+Onto X values steps (Clash c) = Dead X steps
 Onto X values steps Yes = ⊥
 Onto X values steps No = ⊥
 
 abbrev pub Concluded : List ℕ → List ℕ → List Value → List Step → List ℕ → Next → Type 0
 Concluded row given values steps out (Decide l) = Free values l
-Concluded row given values steps out Clash = Dead (allowed row) steps
+Concluded row given values steps out (Clash c) = Dead (allowed row) steps
 Concluded row given values steps out Yes = Hit row given out
 Concluded row given values steps out No = (p : ℕ → Bool) → (allowed row p && every (lit p) given) ≡ false

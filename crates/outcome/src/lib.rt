@@ -5,19 +5,20 @@
 ghost use Rattle.std.specs.Prelude.{◌≡◌, ℕ, ◌<◌, ◌≤◌, Bool, true, false, length, slice_index, MatchOption};
 ghost use Rattle.chooser.specs.Ways.{lit, some, every, written};
 ghost use Rattle.rows.specs.Rows.{inside, holds};
+ghost use Rattle.rows.specs.declared.store.TheConstants.{MOST_VARIABLES};
 ghost use Rattle.implied.specs.Implied.{allowed};
 ghost use Rattle.trail.specs.Trails.{literal_at};
 ghost use Rattle.trail.specs.Values.{Free};
 ghost use Rattle.outcome.specs.Outcome.{byte_of, Copied, Failing, Missed, Onto, Concluded, Question};
 
-use rows::ClauseIter;
+use rows::{ClauseIter, is_positive, variable};
 use trail::{Search, Trail, Value};
 
-// What comes next: a literal to decide, a clash, or the answer.
+// What comes next: a literal to decide, a clash, with the clause that is false if it is in the pool, or the answer.
 #[derive(Clone, Copy, PartialEq, Eq, Debug)]
 pub enum Next {
     Decide(u16),
-    Clash,
+    Clash(Option<u32>),
     Yes,
     No,
 }
@@ -34,10 +35,10 @@ fn byte(value: Value) -> u8
 }
 
 // Writes the values out.
-// Kept as it is: what `out` holds is wanted after the loop, and of a slice that is written through a `zip` nothing is known then
+// Kept as it is: a loop over `enumerate` is proved from place to place, one over a `zip` from the pairs that it has yielded
 // (tried: the proof didn't close on what each byte is).
 fn write(trail: &Trail, out: &mut [u8])
-    requires { length out.old ≤ 4096 }
+    requires { length out.old ≤ MOST_VARIABLES }
     ensures { (k : ℕ) → k < length out.new → Copied trail.now.values out.new k }
 {
     for (v, written) in out.iter_mut().enumerate() {
@@ -49,8 +50,8 @@ fn write(trail: &Trail, out: &mut [u8])
 fn holds_in(out: &[u8], l: u16) -> bool
     ensures { result ≡ lit (written out.now) l }
 {
-    let one = out.get((l / 2) as usize).copied() == Some(1);
-    if l % 2 == 0 { one } else { !one }
+    let one = out.get(variable(l)).copied() == Some(1);
+    if is_positive(l) { one } else { !one }
 }
 
 // Returns whether some literal of the clause is true.
@@ -75,24 +76,16 @@ fn denied(given: &[u16], out: &[u8]) -> Option<u16>
     given.iter().find(|g| !holds_in(out, **g)).copied()
 }
 
-// Returns whether the literal is of an open variable.
-fn is_open(trail: &Trail, l: u16) -> bool
-    ensures open { result ≡ true → Free trail.now.values l }
-    ensures shut { Free trail.now.values l → result ≡ true }
-{
-    trail.value(l) == Some(Value::Open)
-}
-
 // Goes over a clause that the written values do not meet: a literal of it that is open is to be decided.
 fn reopen(search: &Search, out: &[u8], clause: &[u16]) -> Next
-    requires few { length out.now ≤ 4096 }
+    requires few { length out.now ≤ MOST_VARIABLES }
     requires copied { (k : ℕ) → k < length out.now → Copied search.now.trail.values out.now k }
     requires failing { Failing search.now.facts.store.row.items out.now clause.now }
     ensures { Onto (allowed search.now.facts.store.row.items) search.now.trail.values search.now.trail.steps.items result }
 {
-    match clause.iter().find(|m| is_open(&search.trail, **m)) {
+    match clause.iter().find(|m| search.trail.is_open(**m)) {
         Some(m) => Next::Decide(*m),
-        None => Next::Clash,
+        None => Next::Clash(None),
     }
 }
 
@@ -111,8 +104,8 @@ pub fn conclude(search: &Search, given: &[u16], out: &mut [u8]) -> Next
     let Some(g) = denied(given, out) else {
         return Next::Yes;
     };
-    if !is_open(&search.trail, g) {
-        return Next::Clash;
+    if !search.trail.is_open(g) {
+        return Next::Clash(None);
     }
     Next::Decide(g)
 }

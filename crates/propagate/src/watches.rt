@@ -1,9 +1,10 @@
 ghost use Rattle.std.specs.Prelude.{◌≡◌, ℕ, ◌<◌, ◌≤◌, true, false, length, replicate, slice_set, IfOk};
+ghost use Rattle.rows.specs.declared.store.TheConstants.{MOST_LITERALS};
 ghost use Rattle.propagate.specs.Visits.{Stopped};
 ghost use Rattle.propagate.specs.Uses.{entry, timed, worth, Noted};
 
 use crate::visit::{Visit, unfalse, visit_clause};
-use rows::{MOST_LITERALS, turned};
+use rows::{MOST_LITERALS, turned, variable};
 use std::alloc::{AllocError, Global};
 use trail::{Reason, Search, Trail};
 
@@ -49,7 +50,7 @@ pub struct Watches {
 impl Watches {
     // Makes empty lists, for so many clauses.
     pub fn new(heap: Global, clauses: usize) -> Result<Watches, AllocError>
-        ensures lists { IfOk result (λ w. w.first.items ≡ replicate 8192 NONE) }
+        ensures lists { IfOk result (λ w. w.first.items ≡ replicate MOST_LITERALS NONE) }
         ensures clauses { IfOk result (λ w. w.clauses.items ≡ replicate clauses UNWATCHED) }
     {
         Ok(Watches {
@@ -72,10 +73,12 @@ impl Watches {
         *first = w;
     }
 
-    // Takes the watch behind `before` out of the list of the literal; `after` comes next.
-    fn unlink(&mut self, l: u16, before: u32, after: u32) {
-        if let Some(clause) = self.clauses.get_mut((before / 2) as usize) {
-            clause.next[(before % 2) as usize] = after;
+    // Takes the watch behind `before`, or the first one, out of the list of the literal; `after` comes next.
+    fn unlink(&mut self, l: u16, before: Option<u32>, after: u32) {
+        if let Some(w) = before {
+            if let Some(clause) = self.clauses.get_mut((w / 2) as usize) {
+                clause.next[(w % 2) as usize] = after;
+            }
         } else if let Some(first) = self.first.get_mut(l as usize) {
             *first = after;
         }
@@ -95,8 +98,8 @@ impl Watches {
         if let Some(watched) = self.clauses.get_mut(c as usize) {
             watched.from = 0;
             watched.glue = glue;
+            watched.used = now;
         }
-        self.stamp(c, now);
         if let [a, b, ..] = clause {
             self.watch(c, *a, *b);
         }
@@ -106,7 +109,7 @@ impl Watches {
     fn visit_all(&mut self, search: &mut Search, l: u16) -> Option<u32>
         ensures { Stopped search.old search.new result }
     {
-        let mut before = NONE;
+        let mut before: Option<u32> = None;
         let mut w = self.first.get(l as usize).copied().unwrap_or(NONE);
         // Kept as it is: a list changes while it is gone over, which no iterator over it allows. There are two watches a clause.
         for _ in 0..self.clauses.len().saturating_mul(2) {
@@ -118,10 +121,10 @@ impl Watches {
             let other = watched.literals[(1 - w % 2) as usize];
             let from = watched.from;
             if search.trail.is_true(other) {
-                before = w;
+                before = Some(w);
             } else {
                 match visit_clause(search, c, other, from) {
-                    Visit::Stays => before = w,
+                    Visit::Stays => before = Some(w),
                     Visit::Moves { literal, from } => {
                         self.begin_at(c, from);
                         self.unlink(l, before, after);
@@ -136,6 +139,7 @@ impl Watches {
     }
 
     // Lets the next search for another literal of the clause begin at the place `from`.
+    // Kept as it is: `stamp` writes another field of the clause in as many lines; one function for both would be told which.
     fn begin_at(&mut self, c: u32, from: u16) {
         if let Some(watched) = self.clauses.get_mut(c as usize) {
             watched.from = from;
@@ -162,8 +166,8 @@ impl Watches {
     // Empties the lists, and watches two literals of each clause, such as are not false if it has them.
     pub fn watch_all(&mut self, search: &Search) {
         self.first.fill(NONE);
-        // Kept as it is: clauses are asked for by number. A pool is seen as a list, and an iterator over it would be one more type
-        // with a proof, for two loops that want the numbers besides.
+        // Kept as it is: clauses are asked for by number. For an iterator over a pool, as rows has it, the pool would have to say as
+        // well that its run of numbers is the row of its clauses.
         for c in 0..MOST_WATCHED {
             let Some(clause) = search.facts.pool.clause(c) else {
                 return;
@@ -193,7 +197,7 @@ impl Watches {
         ensures { Noted self.old self.new trail.now.steps.items seen.now (length trail.now.steps.items) now }
     {
         for step in &trail.steps {
-            let v = (step.literal / 2) as usize;
+            let v = variable(step.literal);
             if v < seen.len() && seen[v] {
                 if let Reason::Clause(c) = step.reason {
                     self.stamp(c, now);

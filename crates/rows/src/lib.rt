@@ -1,7 +1,7 @@
 // Clauses one after another in a row of numbers, each as its length and then its literals.
 #![tactic(auto)]
 
-ghost use Rattle.std.specs.Prelude.{◌≡◌, ◌+◌, ◌^◌, ◌<◌, ◌≤◌, ◌∷◌, ◌++◌, length, vec_len, vec_capacity};
+ghost use Rattle.std.specs.Prelude.{◌≡◌, ◌+◌, ◌*◌, ◌/◌, ◌%◌, ◌^◌, ◌<◌, ◌≤◌, ◌==◌, ◌∷◌, ◌++◌, length, vec_len, vec_capacity, if◌then◌else◌};
 ghost use Rattle.chooser.specs.Ways.{allotted};
 ghost use Rattle.rows.specs.Lits.{opposite, Turned};
 ghost use Rattle.rows.specs.Rows.{inside};
@@ -12,19 +12,45 @@ mod store;
 pub use clause_iter::ClauseIter;
 pub use store::{ClauseStore, MOST_ENTRIES, MOST_LITERALS, MOST_VARIABLES};
 
+// Returns the variable of the literal.
+pub fn variable(l: u16) -> usize
+    ensures { result ≡ l / 2 }
+{
+    (l / 2) as usize
+}
+
+// Returns whether the literal says that its variable is 1.
+pub fn is_positive(l: u16) -> bool
+    ensures { result ≡ (l % 2 == 0) }
+{
+    l % 2 == 0
+}
+
+// Returns the literal that says that the variable has this value.
+pub fn literal(variable: u16, value: bool) -> u16
+    requires { variable < 2 ^ 15 }
+    ensures { result ≡ (if value then 2 * variable else 2 * variable + 1) }
+{
+    if value {
+        2 * variable
+    } else {
+        2 * variable + 1
+    }
+}
+
 // Returns the other literal of the variable.
 pub fn turned(l: u16) -> u16
     ensures value { result ≡ opposite l }
     ensures other { Turned l result }
 {
-    if l % 2 == 0 { l + 1 } else { l - 1 }
+    if is_positive(l) { l + 1 } else { l - 1 }
 }
 
 // Returns whether each literal is of a variable below `count`.
 pub fn are_allotted(count: u16, literals: &[u16]) -> bool
     ensures { result ≡ allotted count literals.now }
 {
-    literals.iter().all(|l| *l / 2 < count)
+    literals.iter().all(|l| variable(*l) < count as usize)
 }
 
 // Returns whether the row has whole clauses over `count` variables.

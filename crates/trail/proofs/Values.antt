@@ -1,10 +1,11 @@
 -- The value that makes a literal true, and how the count of open variables changes with one write.
 use Rattle.std.proofs.Common.{◌≡◌, ℕ, ◌+◌, ◌/◌, ◌%◌, ◌<◌, ◌≤◌, true, false, cond, eqb, List, length, set, sym, ap, ◌∙◌, ⊎_elim, arith}
-use Rattle.std.proofs.lemmas.Bool.{cases_eq, cond-true, cond-false, eq-eqb, ne_eqb}
+use Rattle.std.proofs.lemmas.Bool.{cases_eq, cases_lt, cond-true, cond-false, eq-eqb, ne_eqb}
+use Rattle.std.proofs.lemmas.List.{get_or_past}
 use Rattle.std.proofs.lemmas.List.Sums.{sum_by-set, count_by-le-length}
 use Rattle.trail.specs.declared.step.Value.{Value}
 use Rattle.trail.specs.declared.step.Value.TheVariants.{False, True, Open}
-use Rattle.trail.specs.Values.{value_at, making, breaking, is_open, opens}
+use Rattle.trail.specs.Values.{value_at, making, breaking, Free, is_open, opens}
 
 -- a literal is even or odd
 module _ (l : ℕ) where
@@ -41,6 +42,10 @@ making_parity l m e =
     (λ a. ⊎_elim (λ b. a ∙ sym b) (λ b. let x = making_even l a in let y = making_odd m b in let z : ⊥ = cc in absurd z) (cases_eq (m % 2) 0))
     (λ a. ⊎_elim (λ b. let x = making_odd l a in let y = making_even m b in let z : ⊥ = cc in absurd z) (λ b. omega arith) (cases_eq (m % 2) 0))
     (cases_eq (l % 2) 0)
+
+-- an open variable is one that the values have
+pub free_within : (values : List Value) (l : ℕ) → Free values l → l / 2 < length values
+free_within values l free = ⊎_elim (λ lt. lt) (λ ge. let past = get_or_past values (l / 2) False ge in let z : ⊥ = cc in absurd z) (cases_lt (l / 2) (length values))
 
 pub opens_most : (xs : List Value) → opens xs ≤ length xs
 opens_most xs = count_by-le-length is_open xs

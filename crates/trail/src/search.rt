@@ -2,11 +2,10 @@ ghost use Rattle.std.specs.Prelude.{◌≡◌, ◌<◌, [], ◌∷◌, ◌++◌,
 ghost use Rattle.implied.specs.Implied.{allowed};
 ghost use Rattle.trail.specs.Trails.{Sound, Follows};
 
-use crate::step::{Reason, Value};
+use crate::step::Reason;
 use crate::trail::Trail;
 use chooser::Fault;
 use implied::Facts;
-use rows::MOST_VARIABLES;
 use std::alloc::{AllocError, Global};
 
 // What is known of the allowed ways, and a trail whose literals follow from that and from its decisions.
@@ -38,12 +37,7 @@ impl Search {
         requires { (reason ≢ Reason.Decision) → Follows (allowed self.old.facts.store.row.items) self.old.trail.steps.items (length self.old.trail.steps.items) l }
         ensures { Pushed self.old self.new l reason result }
     {
-        let v = (l / 2) as usize;
-        if v >= MOST_VARIABLES {
-            return false;
-        }
-        let value = self.trail.values[v];
-        if value != Value::Open {
+        if !self.trail.is_open(l) {
             return false;
         }
         self.trail.put(l, reason);

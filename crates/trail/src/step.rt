@@ -1,8 +1,10 @@
 ghost use Rattle.std.specs.Prelude.{◌≡◌, true, false, ◌≢◌};
 ghost use Rattle.trail.specs.Values.{making};
 
+use rows::is_positive;
+
 // The value of a variable.
-// Kept as it is: three cases with names; of an Option<bool> each test would ask twice.
+// Kept as it is: three cases with names, where an Option<bool> has two in two layers, and in two bytes instead of one.
 #[derive(Clone, Copy, PartialEq, Eq, Debug)]
 pub enum Value {
     False,
@@ -40,7 +42,7 @@ impl Step {
 pub(crate) fn making(l: u16) -> Value
     ensures { result ≡ making l }
 {
-    if l % 2 == 0 {
+    if is_positive(l) {
         Value::True
     } else {
         Value::False

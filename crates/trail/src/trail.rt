@@ -2,10 +2,10 @@ ghost use Rattle.std.specs.Prelude.{◌≡◌, ◌-◌, ◌/◌, ◌<◌, true, 
 ghost use Rattle.rows.specs.Lits.{Turned};
 ghost use Rattle.rows.specs.declared.store.TheConstants.{MOST_LITERALS, MOST_VARIABLES};
 ghost use Rattle.trail.specs.Trails.{step_at, literal_at};
-ghost use Rattle.trail.specs.Values.{Refuted, Holds, Valued};
+ghost use Rattle.trail.specs.Values.{Refuted, Holds, Free, Valued};
 
 use crate::step::{Reason, Step, Value, making};
-use rows::{MOST_VARIABLES, turned};
+use rows::{MOST_VARIABLES, turned, variable};
 use std::alloc::{AllocError, Global};
 
 // Literals in the order in which they were put, and what is known of each variable.
@@ -44,24 +44,30 @@ impl Trail {
     pub fn is_false(&self, l: u16) -> bool
         ensures { result ≡ true → Refuted self.now.values l }
     {
-        let v = (l / 2) as usize;
-        v < MOST_VARIABLES && self.values[v] == making(turned(l))
+        self.is_true(turned(l))
     }
 
     // Returns whether the literal is true.
-    // Kept as it is: two tests of one line each; a test that takes the wanted value would be longer at each call.
     pub fn is_true(&self, l: u16) -> bool
         ensures { result ≡ true → Holds self.now.values l }
     {
-        let v = (l / 2) as usize;
+        let v = variable(l);
         v < MOST_VARIABLES && self.values[v] == making(l)
+    }
+
+    // Returns whether the literal is of an open variable.
+    pub fn is_open(&self, l: u16) -> bool
+        ensures open { result ≡ true → Free self.now.values l }
+        ensures shut { Free self.now.values l → result ≡ true }
+    {
+        self.values.get(variable(l)) == Some(&Value::Open)
     }
 
     // Returns whether the literal is true, false or open; None for what is no literal of a variable.
     pub fn value(&self, l: u16) -> Option<Value>
         ensures { Valued self.now.values l result }
     {
-        let value = *self.values.get((l / 2) as usize)?;
+        let value = *self.values.get(variable(l))?;
         Some(if value == Value::Open {
             Value::Open
         } else if value == making(l) {
@@ -83,7 +89,7 @@ impl Trail {
     pub fn place_against(&self, l: u16) -> Option<usize>
         ensures { IfSome result (λ j. (j < length self.now.steps.items) × Turned (literal_at self.now.steps.items j) l) }
     {
-        let j = *self.positions.get((l / 2) as usize)? as usize;
+        let j = *self.positions.get(variable(l))? as usize;
         if j < self.steps.len() && self.step(j).literal == turned(l) {
             Some(j)
         } else {
@@ -104,7 +110,7 @@ impl Trail {
         requires room { length self.old.steps.items < MOST_VARIABLES }
         ensures { Put self.old self.new l reason }
     {
-        let v = (l / 2) as usize;
+        let v = variable(l);
         let place = self.steps.len() as u16;
         if reason == Reason::Decision && self.decisions.len() < MOST_VARIABLES {
             self.decisions.push_reserved(place);
@@ -129,7 +135,7 @@ impl Trail {
         if step.is_decision() {
             let _ = self.decisions.pop();
         }
-        self.values[(step.literal / 2) as usize] = Value::Open;
+        self.values[variable(step.literal)] = Value::Open;
         step.literal
     }
 

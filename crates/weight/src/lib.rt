@@ -4,10 +4,9 @@
 ghost use Rattle.weight.specs.Weight.{Pushes, Jumps, Bounded};
 
 // Shows that deciding, propagating and jumping back each raise the weight, and that it is bounded.
-pub fn weight_rises() -> u8
+// It is a function so that src/ states the claim, in a contract; it does nothing.
+pub fn weight_rises()
     ensures pushes { Pushes }
     ensures jumps { Jumps }
     ensures bounded { Bounded }
-{
-    0
-}
+{}

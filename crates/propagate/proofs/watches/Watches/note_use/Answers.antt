@@ -1,4 +1,4 @@
-use Rattle.std.proofs.Common.{◌≡◌, false, ◌+◌, ◌/◌, get_or, subst, sym, ap, ◌∙◌}
+use Rattle.std.proofs.Common.{◌≡◌, true, false, ◌+◌, ◌/◌, ◌≤◌, length, get_or, subst, sym, ap, ◌∙◌}
 use Rattle.std.proofs.lemmas.Bool.{both_ways}
 use Rattle.std.proofs.lemmas.List.{get_or_default, get_or_past}
 use Rattle.trail.specs.Trails.{step_at}
@@ -26,11 +26,11 @@ loop-step-preserved c =
       | then-v-seen+then-seen-v+in-Clause b ↦
           let v = b.stamp.new.self in
           let put = b.stamp.ensures in
-          subst (λ z. Noted w z steps seen (n + 1) now) (sym b.self-is) (noted_stamp w u v steps seen n now x is h b.in-Clause.c (b.in-Clause.is, b.if-seen-v.true) put.lists put.clauses)
+          subst (λ z. Noted w z steps seen (n + 1) now) (sym b.self-is) (noted_stamp w u v steps seen n now x is h b.in-Clause.c (b.in-Clause.is, subst (λ i. get_or seen i false ≡ true) c.variable-v.ensures b.if-seen-v.true) put.lists put.clauses)
       | then-v-seen+then-seen-v+in_default b ↦ subst (λ z. Noted w z steps seen (n + 1) now) (sym b.self-is) (skip (λ k s. b.in_default.not-Clause k s.0))
       | else-v-seen b ↦
           subst (λ z. Noted w z steps seen (n + 1) now) (sym b.self-is) (skip (λ k s. elim b.else-v-seen.branch [
-            | else-v-seen-via-then-v-seen+else-seen-v d ↦ both_ways (get_or seen (x.literal / 2) false) d.if-seen-v.false s.1
-            | else-v-seen-via-else-v-seen d ↦ both_ways (get_or seen (x.literal / 2) false) (get_or_past seen (x.literal / 2) false d.if-v-seen.false) s.1
+            | else-v-seen-via-then-v-seen+else-seen-v d ↦ both_ways (get_or seen (x.literal / 2) false) (subst (λ i. get_or seen i false ≡ false) c.variable-v.ensures d.if-seen-v.false) s.1
+            | else-v-seen-via-else-v-seen d ↦ both_ways (get_or seen (x.literal / 2) false) (get_or_past seen (x.literal / 2) false (subst (λ i. length seen ≤ i) c.variable-v.ensures d.if-v-seen.false)) s.1
           ]))
     ]
