@@ -138,8 +138,8 @@ impl Order {
     // Puts the variable into the heap, if it is not there.
     pub fn insert(&mut self, v: u16) {
         let i = self.heap.len();
-        if (v as usize) < MOST_VARIABLES
-            && i < MOST_VARIABLES
+        if i < MOST_VARIABLES
+            && (v as usize) < MOST_VARIABLES
             && self.variables[v as usize].place.is_none()
         {
             self.heap.push_reserved(v);

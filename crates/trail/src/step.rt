@@ -4,7 +4,7 @@ ghost use Rattle.trail.specs.Values.{making};
 use rows::is_positive;
 
 // The value of a variable.
-// Kept as it is: three cases with names, where an Option<bool> has two in two layers, and in two bytes instead of one.
+// Kept as it is: three cases with names, where an Option<bool> would have two of them in one layer and the third in another.
 #[derive(Clone, Copy, PartialEq, Eq, Debug)]
 pub enum Value {
     False,
