@@ -1,9 +1,9 @@
 ghost use Rattle.std.specs.Prelude.{◌≡◌, ℕ, ◌+◌, ◌-◌, ◌/◌, ◌<◌, ◌≤◌, ◌⊎◌, Bool, true, [], length, replicate, slice_index_or, vec_capacity, IfOk};
 ghost use Rattle.chooser.specs.Ways.{lit, some};
 ghost use Rattle.rows.specs.Lits.{Turned};
-ghost use Rattle.implied.specs.Implied.{allowed};
+ghost use Rattle.implied.specs.Implied.{allowed, Implied};
 ghost use Rattle.trail.specs.Trails.{literal_at, Dead};
-ghost use Rattle.analyze.specs.Analysis.{Wrong, Grows, Absorbed, Drawn, Opposed, Jump};
+ghost use Rattle.analyze.specs.Analysis.{Wrong, Grows, Absorbed, Opposed, Jump};
 
 use rows::{MOST_VARIABLES, turned};
 use std::alloc::{AllocError, Global};
@@ -129,7 +129,7 @@ impl Analyzer {
     // Kept as it is: whether it was drawn is answered beside the clause, which lies in memory that is reserved once.
     fn walk(&mut self, search: &Search) -> bool
         requires begun { (p : ℕ → Bool) → allowed search.now.facts.store.row.items p ≡ true → Wrong p search.now.trail.steps.items self.old.seen.items (length search.now.trail.steps.items) }
-        ensures { result ≡ true → Drawn (allowed search.now.facts.store.row.items) self.new.clause.items }
+        ensures { result ≡ true → Implied (allowed search.now.facts.store.row.items) self.new.clause.items }
     {
         self.clause.clear();
         // Kept as it is: the place is wanted with the step, here and in `decisions`; `iter().enumerate().rev()` names the same two.
@@ -147,7 +147,7 @@ impl Analyzer {
 
     // Draws the clause that the clash with the clause `c` teaches.
     fn explain(&mut self, search: &Search, c: u32) -> bool
-        ensures { result ≡ true → Drawn (allowed search.now.facts.store.row.items) self.new.clause.items }
+        ensures { result ≡ true → Implied (allowed search.now.facts.store.row.items) self.new.clause.items }
     {
         self.left = 0;
         self.absorb(search, c, None, search.trail.steps.len()) && self.walk(search)

@@ -1,6 +1,6 @@
 ghost use Rattle.std.specs.Prelude.{◌≡◌, ℕ, Bool, true, false, [], ◌∷◌, ◌++◌, length, IfOk, MatchOption, slice_index_or, is_ok, if◌then◌else◌, ◌⊎◌};
-ghost use Rattle.chooser.specs.Ways.{lit, some};
-ghost use Rattle.implied.specs.Implied.{allowed, Met, Off};
+ghost use Rattle.chooser.specs.Ways.{lit};
+ghost use Rattle.implied.specs.Implied.{allowed, Implied, Met, Off};
 
 use crate::pool::{Pool, Room};
 use chooser::Fault;
@@ -25,18 +25,13 @@ impl Facts {
     ghost use Rattle.chooser.specs.Steps.{NewVariable, Add};
     ghost use Rattle.rows.specs.Store.{store_means, Spent};
 
-    // Knows nothing but what the store has, which is empty. The pool has room for so many numbers and clauses.
-    pub fn new(
-        heap: Global,
-        store: ClauseStore,
-        numbers: usize,
-        clauses: usize,
-    ) -> Result<Facts, AllocError>
+    // Knows nothing but what the store has, which is empty. The pool has this room.
+    pub fn new(heap: Global, store: ClauseStore, room: Room) -> Result<Facts, AllocError>
         ensures { IfOk result (λ f. f.store ≡ store) }
     {
         Ok(Facts {
             store,
-            pool: Pool::new(heap, numbers, clauses)?,
+            pool: Pool::new(heap, room)?,
             off: vec![in heap; false; MOST_LITERALS]?,
         })
     }
@@ -87,7 +82,7 @@ impl Facts {
     // Puts a clause into the pool that every allowed way meets, and returns its number; None where there is no room, or less than
     // `left` would be left.
     pub fn learn(&mut self, clause: &[u16], left: Room) -> Option<u32>
-        requires { (p : ℕ → Bool) → allowed self.old.store.row.items p ≡ true → some (lit p) clause.now ≡ true }
+        requires { Implied (allowed self.old.store.row.items) clause.now }
         ensures store { self.new.store ≡ self.old.store }
         ensures off { self.new.off ≡ self.old.off }
         ensures pool { MatchOption result (self.new.pool ≡ self.old.pool) (λ c. (c ≡ length self.old.pool) × (self.new.pool ≡ self.old.pool ++ clause.now ∷ [])) }
