@@ -102,8 +102,8 @@ impl Facts {
     }
 
     // Allots a variable and returns its number.
-    // Kept as it is: this call and `add` say what the store's own say, here and in `Search` and `Solver`, since the parts of each
-    // are to stay as its ghost fields want them.
+    // Kept as it is: this call and `add` say what the store's own say, here and in `Search` and `Solver`. At `add` each of them
+    // has ghost fields to carry over to the longer row, and no caller is to know which of the two calls has that to do.
     pub fn new_variable(&mut self) -> Result<u16, Fault>
         ensures grows { NewVariable (store_means self.old.store) (store_means self.new.store) result }
         ensures row { self.new.store.row.items ≡ self.old.store.row.items }
