@@ -11,7 +11,8 @@ use Rattle.trail.specs.declared.step.Value.{Value}
 use Rattle.trail.specs.declared.step.Reason.TheVariants.{Decision}
 use Rattle.trail.specs.declared.step.Step.{Step}
 use Rattle.trail.specs.Trails.{step_at, literal_at, Along, Follows, Sound}
-use Rattle.analyze.specs.Analysis.{Drawn, Opposed, Place, Jump}
+use Rattle.implied.specs.Implied.{Implied}
+use Rattle.analyze.specs.Analysis.{Opposed, Place, Jump}
 use Rattle.analyze.proofs.Draws.{some_place, some_before, some_last}
 
 along_more : (p : ℕ → Bool) (steps : List Step) (i : ℕ) → Along p steps i → lit p (literal_at steps i) ≡ true → Along p steps (i + 1)
@@ -27,7 +28,7 @@ opposed_from steps clause rest x k j e le lt turn h =
     subst (λ c. Opposed steps c k) (sym e) (record { some = omega arith; first = (j, le, lt, turn); others = opposed_rest steps k x rest h })
 
 -- a clause of which all but the first literal are false along the first k
-pub asserted : (X : (ℕ → Bool) → Bool) (steps : List Step) (clause : List ℕ) (k : ℕ) → Drawn X clause → Opposed steps clause k → Follows X steps k (get_or clause 0 0)
+pub asserted : (X : (ℕ → Bool) → Bool) (steps : List Step) (clause : List ℕ) (k : ℕ) → Implied X clause → Opposed steps clause k → Follows X steps k (get_or clause 0 0)
 asserted X steps clause k drawn o p x along =
     let w = some_place (lit p) clause (drawn p x) in
     ⊎_elim

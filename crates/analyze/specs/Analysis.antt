@@ -1,7 +1,8 @@
 -- What is drawn from a clash, over the ways that X allows.
 use Rattle.std.specs.Prelude.{◌≡◌, ℕ, ◌/◌, ◌<◌, ◌≤◌, Bool, true, false, ◌⊎◌, List, length, Some, None, Option, slice_index, slice_index_or}
-use Rattle.chooser.specs.Ways.{lit, some}
+use Rattle.chooser.specs.Ways.{lit}
 use Rattle.rows.specs.Lits.{Turned}
+use Rattle.implied.specs.Implied.{Implied}
 use Rattle.trail.specs.declared.step.Reason.TheVariants.{Decision}
 use Rattle.trail.specs.declared.step.Step.{Step}
 use Rattle.trail.specs.Trails.{step_at, literal_at, Follows}
@@ -17,10 +18,6 @@ Grows a b = (v : ℕ) → slice_index_or a v false ≡ true → slice_index_or b
 abbrev pub Absorbed : ((ℕ → Bool) → Bool) → List Step → List Bool → ℕ → Option ℕ → Type 0
 Absorbed X steps seen i None = (p : ℕ → Bool) → X p ≡ true → Wrong p steps seen i
 Absorbed X steps seen i (Some l) = (p : ℕ → Bool) → X p ≡ true → Wrong p steps seen i ⊎ (lit p l ≡ true)
-
--- every allowed way meets the clause
-abbrev pub Drawn : ((ℕ → Bool) → Bool) → List ℕ → Type 0
-Drawn X clause = (p : ℕ → Bool) → X p ≡ true → some (lit p) clause ≡ true
 
 -- the literals of the clause but the first are false below the place k, and the opposite of the first stands from k on
 pub record Opposed (steps : List Step) (clause : List ℕ) (k : ℕ) : Type 0 where
@@ -39,4 +36,4 @@ pub record Place (X : (ℕ → Bool) → Bool) (steps : List Step) (clause : Lis
 -- a clause was drawn, and a place to jump back to; or no way is allowed
 abbrev pub Jump : ((ℕ → Bool) → Bool) → List Step → List ℕ → Option ℕ → Type 0
 Jump X steps clause None = (p : ℕ → Bool) → X p ≡ true → ⊥
-Jump X steps clause (Some k) = Drawn X clause × Place X steps clause k
+Jump X steps clause (Some k) = Implied X clause × Place X steps clause k

@@ -2,9 +2,9 @@ ghost use Rattle.std.specs.Prelude.{◌≡◌, ℕ, ◌+◌, ◌-◌, ◌/◌, �
 ghost use Rattle.chooser.specs.Ways.{lit, some};
 ghost use Rattle.rows.specs.Lits.{Turned};
 ghost use Rattle.rows.specs.declared.store.TheConstants.{MOST_VARIABLES};
-ghost use Rattle.implied.specs.Implied.{allowed};
+ghost use Rattle.implied.specs.Implied.{allowed, Implied};
 ghost use Rattle.trail.specs.Trails.{literal_at, Dead};
-ghost use Rattle.analyze.specs.Analysis.{Wrong, Grows, Absorbed, Drawn, Opposed, Jump};
+ghost use Rattle.analyze.specs.Analysis.{Wrong, Grows, Absorbed, Opposed, Jump};
 
 use rows::{MOST_VARIABLES, turned, variable};
 use std::alloc::{AllocError, Global};
@@ -124,7 +124,7 @@ impl Analyzer {
     // Goes back over the trail, and writes a clause that every allowed way meets; the last literal first.
     fn walk(&mut self, search: &Search)
         requires begun { (p : ℕ → Bool) → allowed search.now.facts.store.row.items p ≡ true → Wrong p search.now.trail.steps.items self.old.seen.items (length search.now.trail.steps.items) }
-        ensures { Drawn (allowed search.now.facts.store.row.items) self.new.clause.items }
+        ensures { Implied (allowed search.now.facts.store.row.items) self.new.clause.items }
     {
         self.clause.clear();
         // Kept as it is: places counted down, here and in `decisions`. `iter().enumerate().rev()` was tried: a loop over it is proved
@@ -139,7 +139,7 @@ impl Analyzer {
 
     // Draws the clause that the clash with the clause `c` teaches.
     fn explain(&mut self, search: &Search, c: u32) -> bool
-        ensures { result ≡ true → Drawn (allowed search.now.facts.store.row.items) self.new.clause.items }
+        ensures { result ≡ true → Implied (allowed search.now.facts.store.row.items) self.new.clause.items }
     {
         self.left = 0;
         if !self.absorb(search, c, None, search.trail.steps.len()) {

@@ -1,11 +1,11 @@
 -- A step taken back from the trail.
 use Rattle.std.proofs.Common.{◌≡◌, ℕ, ◌*◌, ◌/◌, ◌<◌, Bool, true, false, eqb, ltb, List, [], ◌∷◌, ◌++◌, length, get_or, set, sym, refl, ap, ◌∙◌, subst, ⊎_elim, arith, append_assoc, length-append, length-set, get_or-set_other, get_or-set_same}
 use Rattle.std.specs.List.{Contains}
-use Rattle.std.proofs.lemmas.Bool.{cases_eq, and_parts, and_from, ltb-true, not_from_false}
+use Rattle.std.proofs.lemmas.Bool.{cases_eq, and_parts, and_from, ltb-true, not_from_false, false_from_ne_true}
 use Rattle.std.proofs.lemmas.List.Elements.{Contains-append_cases}
 use Rattle.chooser.specs.Ways.{lit, every, allotted, written}
 use Rattle.rows.specs.Lits.{opposite}
-use Rattle.rows.proofs.Lits.{lit_same, lit_opposite, false_from}
+use Rattle.rows.proofs.Lits.{lit_same, lit_opposite}
 use Rattle.backtrack.specs.Values.{Opened}
 use Rattle.backtrack.specs.Trail.{lit_of, lits, Leads, Dead, Founded, Witness, Trail, Undone}
 use Rattle.backtrack.specs.declared.trail.Step.{Step}
@@ -58,7 +58,7 @@ module _ (X : (ℕ → Bool) → Bool) where
           small = λ k. ⊎_elim (λ e. omega (arith, subst (λ i. get_or back i 0 ≡ 2) (sym e) cleared)) (λ ne. let h = t.small k in omega (arith, kept_back k ne)) (cases_eq k (last / 2));
           witness = witness_pop;
           named = subst (λ n. allotted n (lits steps) ≡ true) (sym (length-set values (last / 2) 2)) parts.0;
-          counted = omega (arith, length-append steps (s ∷ []), opens_open values (last / 2), length-set values (last / 2) 2);
+          counted = omega (arith, length-append steps (s ∷ []), opens_open values (last / 2) within, length-set values (last / 2) 2);
           sound = (sound_pop X [] steps s t.sound).0;
         }
 
@@ -74,7 +74,7 @@ module _ (X : (ℕ → Bool) → Bool) where
 
   pub dead_flip : (ls : List ℕ) (l : ℕ) → Dead X (ls ++ (l ∷ [])) → Leads X ls (opposite l)
   dead_flip ls l dead p x along =
-      let off : lit p l ≡ false = false_from (lit p l) (λ on. dead p x (every_more (lit p) ls l ∙ and_from (every (lit p) ls) (lit p l) along on)) in
+      let off : lit p l ≡ false = false_from_ne_true (lit p l) (λ on. dead p x (every_more (lit p) ls l ∙ and_from (every (lit p) ls) (lit p l) along on)) in
       lit_opposite l p ∙ not_from_false (lit p l) off
 
 -- a step that was popped

@@ -4,7 +4,7 @@ use mathlib.Core.Bool.{or-false}
 use Rattle.std.proofs.lemmas.Bool.{both_ways, or_cases, or_left}
 use Rattle.std.specs.Option.{option_or}
 use Rattle.chooser.specs.Ways.{lit, some, written}
-use Rattle.rows.proofs.Lits.{some_append}
+use Rattle.std.proofs.lemmas.List.Folds.{list_any-append}
 use Rattle.backtrack.specs.Values.{Opened, Off}
 use Rattle.backtrack.specs.Told.{Told}
 use Rattle.backtrack.specs.declared.clause.Status.{Status}
@@ -18,7 +18,7 @@ status (Some l) (Some k) = Open l
 
 module _ (values before : List ℕ) (l : ℕ) where
   one_more : (f : ℕ → Bool) → some f (before ++ (l ∷ [])) ≡ (some f before || f l)
-  one_more f = some_append f before (l ∷ []) ∙ ap (λ b. some f before || b) (or-false (f l))
+  one_more f = list_any-append f before (l ∷ []) ∙ ap (λ b. some f before || b) (or-false (f l))
 
   last_on : (f : ℕ → Bool) → some f before ≡ false → some f (before ++ (l ∷ [])) ≡ true → f l ≡ true
   last_on f off e = ⊎_elim (λ a. absurd (both_ways (some f before) off a)) (λ b. b) (or_cases (some f before) (f l) (sym (one_more f) ∙ e))

@@ -6,7 +6,9 @@ use Rattle.std.proofs.lemmas.Bool.{cases_eq, both_ways, and_from, lt-ltb}
 use Rattle.std.proofs.lemmas.List.{map-append, append-nil, get_or_default}
 use Rattle.std.proofs.lemmas.List.Elements.{Contains-append_left, Contains-append_right}
 use Rattle.chooser.specs.Ways.{lit, some, every, allotted, written}
-use Rattle.rows.proofs.Lits.{lit_same, lit_fixes, every_at, every_append}
+use Rattle.std.proofs.lemmas.List.Folds.{list_all-append}
+use Rattle.std.proofs.lemmas.List.Sums.{AllPass-from_list_all}
+use Rattle.rows.proofs.Lits.{lit_same, lit_fixes}
 use Rattle.backtrack.specs.Values.{Agrees, Opened, bit}
 use Rattle.backtrack.specs.Trail.{lit_of, lits, Leads, Dead, Founded, Sound, Witness, Trail}
 use Rattle.backtrack.specs.declared.trail.Step.{Step}
@@ -16,10 +18,10 @@ pub lits_more : (steps : List Step) (s : Step) → lits (steps ++ (s ∷ [])) �
 lits_more steps s = map-append lit_of steps (s ∷ [])
 
 pub every_more : (f : ℕ → Bool) (ls : List ℕ) (l : ℕ) → every f (ls ++ (l ∷ [])) ≡ (every f ls && f l)
-every_more f ls l = every_append f ls (l ∷ []) ∙ ap (λ b. every f ls && b) (and-true (f l))
+every_more f ls l = list_all-append f ls (l ∷ []) ∙ ap (λ b. every f ls && b) (and-true (f l))
 
 every_there : (f : ℕ → Bool) (ls : List ℕ) (l : ℕ) → every f ls ≡ true → Contains ls l → f l ≡ true
-every_there f ls l e h = subst (λ x. f x ≡ true) (get_or_default ls h.0 0 l h.1 ∙ h.2) (every_at f ls h.0 e h.1)
+every_there f ls l e h = subst (λ x. f x ≡ true) (get_or_default ls h.0 0 l h.1 ∙ h.2) (AllPass-from_list_all f ls e h.0 0 h.1)
 
 module _ (X : (ℕ → Bool) → Bool) where
   sound_push : (before : List ℕ) (steps : List Step) (s : Step) → Sound X before steps → Founded X (before ++ lits steps) s → Sound X before (steps ++ (s ∷ []))
@@ -43,7 +45,7 @@ module _ (X : (ℕ → Bool) → Bool) where
     room l h =
         let lt : l / 2 < length values = let a = h.0 in omega arith in
         let c = t.counted in
-        omega (arith, opens_shut values (l / 2) 0 lt h.1 (λ e. omega arith))
+        omega (arith, opens_shut values (l / 2) lt 0 h.1 (λ e. omega arith))
 
     -- a clause that every allowed way meets is false
     pub dead_clash : (clause : List ℕ) → ((p : ℕ → Bool) → X p ≡ true → some (lit p) clause ≡ true) → ((p : ℕ → Bool) → Agrees p values → some (lit p) clause ≡ false) → Dead X (lits steps)
@@ -101,6 +103,6 @@ module _ (X : (ℕ → Bool) → Bool) where
             small = small_push;
             witness = λ k lt ne. subst (λ x. Witness now x k) (sym ls) (witness_push k lt ne);
             named = subst (λ x. allotted (length now) x ≡ true) (sym ls) (subst (λ n. allotted n (lits steps ++ (l ∷ [])) ≡ true) (sym size) named_push);
-            counted = omega (arith, length-append steps (s ∷ []), opens_shut values (l / 2) (bit l) within h.1 (λ e. omega arith));
+            counted = omega (arith, length-append steps (s ∷ []), opens_shut values (l / 2) within (bit l) h.1 (λ e. omega arith));
             sound = sound_push [] steps s t.sound founded;
           }

@@ -1,11 +1,11 @@
 -- Values of which some are open: 0, 1, or 2 for an open variable.
-use Rattle.std.specs.Prelude.{◌≡◌, ℕ, ◌+◌, ◌-◌, ◌*◌, ◌/◌, ◌%◌, ◌<◌, Bool, false, cond, List, [], ◌∷◌, length, ◌==◌, ◌≢◌, Some, None, Option, slice_index}
+use Rattle.std.specs.Prelude.{◌≡◌, ℕ, ◌-◌, ◌*◌, ◌/◌, ◌%◌, ◌<◌, Bool, false, List, length, ◌==◌, ◌≢◌, Some, None, Option, slice_index}
+use Rattle.std.specs.List.{count_by}
 use Rattle.chooser.specs.Ways.{lit, written}
 
 -- how many variables are open
 abbrev pub opens : List ℕ → ℕ
-opens [] = 0
-opens (x ∷ xs) = cond (x == 2) 1 0 + opens xs
+opens values = count_by (λ x. x == 2) values
 
 -- the way gives each variable that is not open its value
 abbrev pub Agrees : (ℕ → Bool) → List ℕ → Type 0

@@ -5,6 +5,7 @@ ghost use Rattle.backtrack.specs.Told.{Told};
 ghost use Rattle.backtrack.specs.Values.{Truth};
 
 use super::OPEN;
+use rows::{is_positive, variable};
 
 // What the values make of a clause.
 #[derive(Clone, Copy)]
@@ -24,11 +25,11 @@ fn truth(values: &[u8], l: u16) -> Option<bool>
     requires { l / 2 < length values.now }
     ensures { Truth values.now l result }
 {
-    let value = values[(l / 2) as usize];
+    let value = values[variable(l)];
     if value == OPEN {
         return None;
     }
-    Some((value == 1) == (l % 2 == 0))
+    Some((value == 1) == is_positive(l))
 }
 
 pub(crate) fn inspect(clause: &[u16], values: &[u8]) -> Status

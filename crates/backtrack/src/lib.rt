@@ -2,9 +2,10 @@
 // It is a loop over a trail of literals, and needs no stack that grows with the variables.
 #![tactic(auto)]
 
-ghost use Rattle.std.specs.Prelude.{◌≡◌, ℕ, ◌+◌, ◌≤◌, Bool, true, List, ◌∷◌, length, vec_capacity};
+ghost use Rattle.std.specs.Prelude.{◌≡◌, ℕ, ◌+◌, ◌≤◌, Bool, true, List, ◌∷◌, length};
 ghost use Rattle.chooser.specs.Ways.{allotted};
 ghost use Rattle.rows.specs.Rows.{inside};
+ghost use Rattle.rows.specs.declared.store.TheConstants.{MOST_VARIABLES};
 ghost use Rattle.backtrack.specs.Solved.{allowed, Solved};
 ghost use Rattle.backtrack.specs.Values.{opens};
 ghost use Rattle.backtrack.specs.Trail.{Trail};
@@ -18,8 +19,9 @@ mod trail;
 use chooser::Answer;
 use clause::{Status, inspect};
 use rows::{ClauseIter, turned};
-use steps::{finish, push, take_back};
-pub use trail::Step;
+pub use steps::Steps;
+use steps::finish;
+use trail::Step;
 
 // The value of a variable that is open.
 // Kept as it is: the values are the bytes of the answer, which the caller lends and which has 0 or 1 for each variable. An
@@ -46,17 +48,16 @@ pub(crate) enum Pass {
 fn visit(
     clause: &[u16],
     values: &mut [u8],
-    trail: &mut Vec<Step>,
+    trail: &mut Steps,
     open: &mut Option<u16>,
 ) -> Result<(), Clash>
     requires named { allotted (length values.old) clause.now ≡ true }
-    requires room { opens values.old + length trail.old.items ≤ vec_capacity trail.old }
-    ensures visited { (X : (ℕ → Bool) → Bool) (left : List (List ℕ)) (start : List Step) → Passing X (clause.now ∷ left) start values.old trail.old.items «open».old → Visited X left start values.new trail.new.items «open».new result }
-    ensures capacity { vec_capacity trail.new ≡ vec_capacity trail.old }
+    requires room { opens values.old + length trail.old.list.items ≤ MOST_VARIABLES }
+    ensures { (X : (ℕ → Bool) → Bool) (left : List (List ℕ)) (start : List Step) → Passing X (clause.now ∷ left) start values.old trail.old.list.items «open».old → Visited X left start values.new trail.new.list.items «open».new result }
 {
     match inspect(clause, values) {
         Status::Clash => return Err(Clash),
-        Status::Forced(l) => push(values, trail, Step::Follows(l)),
+        Status::Forced(l) => trail.push(values, Step::Follows(l)),
         Status::Open(l) => *open = open.or(Some(l)),
         Status::Met => {}
     }
@@ -68,16 +69,15 @@ fn sweep(
     row: &[u16],
     assumptions: &[u16],
     values: &mut [u8],
-    trail: &mut Vec<Step>,
+    trail: &mut Steps,
 ) -> Result<Pass, Clash>
     requires row { inside (length values.old) 0 row.now ≡ true }
     requires assumptions { allotted (length values.old) assumptions.now ≡ true }
-    requires trail { Trail (allowed row.now assumptions.now) values.old trail.old.items }
-    requires room { length values.old ≤ vec_capacity trail.old }
-    ensures swept { Swept (allowed row.now assumptions.now) trail.old.items values.new trail.new.items result }
-    ensures capacity { vec_capacity trail.new ≡ vec_capacity trail.old }
+    requires trail { Trail (allowed row.now assumptions.now) values.old trail.old.list.items }
+    requires room { length values.old ≤ MOST_VARIABLES }
+    ensures { Swept (allowed row.now assumptions.now) trail.old.list.items values.new trail.new.list.items result }
 {
-    let from = trail.len();
+    let from = trail.list.len();
     let mut open = None;
     for l in assumptions {
         visit(&[*l], values, trail, &mut open)?;
@@ -85,7 +85,7 @@ fn sweep(
     for clause in ClauseIter::new(row) {
         visit(clause, values, trail, &mut open)?;
     }
-    if trail.len() > from {
+    if trail.list.len() > from {
         return Ok(Pass::Moved);
     }
     match open {
@@ -95,31 +95,30 @@ fn sweep(
 }
 
 // Writes into `values` a way that meets every clause of the row and every assumption, or answers that there is none.
-// `trail` is working memory, with room for a step for each variable.
+// `trail` is working memory; what it has at first does not count.
 // It is not inlined into its caller, beside whose variables those of its loops would not stay in registers.
 #[inline(never)]
-pub fn solve(row: &[u16], assumptions: &[u16], values: &mut [u8], trail: &mut Vec<Step>) -> Answer
-    requires room { length values.old ≤ vec_capacity trail.old }
+pub fn solve(row: &[u16], assumptions: &[u16], values: &mut [u8], trail: &mut Steps) -> Answer
+    requires room { length values.old ≤ MOST_VARIABLES }
     requires row { inside (length values.old) 0 row.now ≡ true }
     requires assumptions { allotted (length values.old) assumptions.now ≡ true }
-    ensures solved { Solved row.now assumptions.now values.new result }
-    ensures capacity { vec_capacity trail.new ≡ vec_capacity trail.old }
+    ensures { Solved row.now assumptions.now values.new result }
 {
     values.fill(OPEN);
-    trail.clear();
+    trail.list.clear();
     loop {
         match sweep(row, assumptions, values, trail) {
             Ok(Pass::Moved) => {}
-            Ok(Pass::Open(l)) => push(values, trail, Step::Decided(l)),
+            Ok(Pass::Open(l)) => trail.push(values, Step::Decided(l)),
             Ok(Pass::Met) => {
                 finish(values);
                 return Answer::Yes;
             }
             Err(Clash) => {
-                let Some(l) = take_back(values, trail) else {
+                let Some(l) = trail.take_back(values) else {
                     return Answer::No;
                 };
-                push(values, trail, Step::Follows(turned(l)));
+                trail.push(values, Step::Follows(turned(l)));
             }
         }
     }

@@ -1,41 +1,58 @@
 // Steps put on the trail and taken back.
-// Kept as it is: `values` and `trail` are passed side by side. A struct of them would hold two `&mut`, beside which no ghost field
-// may stand, so each method would still say of its two fields what these functions say of their two parameters.
-ghost use Rattle.std.specs.Prelude.{◌≡◌, ℕ, ◌+◌, ◌/◌, ◌<◌, Bool, true, [], ◌∷◌, ◌++◌, length, vec_len, vec_capacity, if◌then◌else◌, nat_eq, slice_index, slice_set};
+ghost use Rattle.std.specs.Prelude.{◌≡◌, ℕ, ◌+◌, ◌/◌, ◌<◌, ◌≤◌, Bool, true, [], ◌∷◌, ◌++◌, length, vec_capacity, IfOk, if◌then◌else◌, nat_eq, slice_index, slice_set};
 ghost use Rattle.chooser.specs.Ways.{allotted};
+ghost use Rattle.rows.specs.declared.store.TheConstants.{MOST_VARIABLES};
 ghost use Rattle.backtrack.specs.Values.{bit};
 ghost use Rattle.backtrack.specs.Trail.{lit_of, lits, Trail, Dead, TakenBack};
 
 use super::OPEN;
 use super::trail::Step;
+use rows::{MOST_VARIABLES, is_positive, variable};
+use std::alloc::{AllocError, Global};
 
-// Puts the step on the trail and makes its literal true.
-pub(crate) fn push(values: &mut [u8], trail: &mut Vec<Step>, step: Step)
-    requires value { lit_of step / 2 < length values.old }
-    requires room { vec_len trail.old < vec_capacity trail.old }
-    ensures values { values.new ≡ slice_set values.old (lit_of step / 2) (bit (lit_of step)) }
-    ensures trail { trail.new.items ≡ trail.old.items ++ (step ∷ []) }
-    ensures capacity { vec_capacity trail.new ≡ vec_capacity trail.old }
-{
-    let l = step.literal();
-    values[(l / 2) as usize] = 1 - (l % 2) as u8;
-    trail.push_reserved(step);
+// The steps on the trail. Their memory is reserved once: a step for each variable that a chooser can have.
+#[derive(Drop)]
+pub struct Steps {
+    pub(crate) list: Vec<Step>,
+    ghost room: { MOST_VARIABLES ≤ vec_capacity list },
 }
 
-// Takes back the steps to the last decision, and that too, and returns its literal; or None when there is none.
-pub(crate) fn take_back(values: &mut [u8], trail: &mut Vec<Step>) -> Option<u16>
-    requires named { allotted (length values.old) (lits trail.old.items) ≡ true }
-    ensures back { (X : (ℕ → Bool) → Bool) → Trail X values.old trail.old.items → Dead X (lits trail.old.items) → TakenBack X trail.old.items values.new trail.new.items result }
-    ensures capacity { vec_capacity trail.new ≡ vec_capacity trail.old }
-{
-    while let Some(step) = trail.pop() {
-        let l = step.literal();
-        values[(l / 2) as usize] = OPEN;
-        if let Step::Decided(_) = step {
-            return Some(l);
-        }
+impl Steps {
+    // Makes a trail without a step.
+    pub fn new(heap: Global) -> Result<Steps, AllocError>
+        ensures { IfOk result (λ s. s.list.items ≡ []) }
+    {
+        Ok(Steps {
+            list: Vec::with_capacity(heap, MOST_VARIABLES)?,
+        })
     }
-    None
+
+    // Puts the step on the trail and makes its literal true.
+    pub(crate) fn push(&mut self, values: &mut [u8], step: Step)
+        requires value { lit_of step / 2 < length values.old }
+        requires room { length self.old.list.items < MOST_VARIABLES }
+        ensures values { values.new ≡ slice_set values.old (lit_of step / 2) (bit (lit_of step)) }
+        ensures trail { self.new.list.items ≡ self.old.list.items ++ (step ∷ []) }
+    {
+        let l = step.literal();
+        values[variable(l)] = u8::from(is_positive(l));
+        self.list.push_reserved(step);
+    }
+
+    // Takes back the steps to the last decision, and that too, and returns its literal; or None when there is none.
+    pub(crate) fn take_back(&mut self, values: &mut [u8]) -> Option<u16>
+        requires { allotted (length values.old) (lits self.old.list.items) ≡ true }
+        ensures { (X : (ℕ → Bool) → Bool) → Trail X values.old self.old.list.items → Dead X (lits self.old.list.items) → TakenBack X self.old.list.items values.new self.new.list.items result }
+    {
+        while let Some(step) = self.list.pop() {
+            let l = step.literal();
+            values[variable(l)] = OPEN;
+            if let Step::Decided(_) = step {
+                return Some(l);
+            }
+        }
+        None
+    }
 }
 
 // Gives each open variable the value 0.

@@ -3,7 +3,7 @@ ghost use Rattle.std.specs.Prelude.{◌≡◌};
 
 // A literal that was put on the trail.
 #[derive(Clone, Copy)]
-pub enum Step {
+pub(crate) enum Step {
     // It was decided.
     Decided(u16),
     // It follows from the steps before it.

@@ -1,8 +1,7 @@
-ghost use Rattle.std.specs.Prelude.{◌≡◌, ℕ, Bool, true, ◌∷◌, ◌++◌, length, Ok, is_ok, if◌then◌else◌};
-ghost use Rattle.chooser.specs.Ways.{lit, some};
+ghost use Rattle.std.specs.Prelude.{◌≡◌, true, ◌∷◌, ◌++◌, length, Ok, is_ok, if◌then◌else◌};
 ghost use Rattle.chooser.specs.Steps.{Add};
 ghost use Rattle.rows.specs.Store.{store_means, Spent};
-ghost use Rattle.implied.specs.Implied.{allowed};
+ghost use Rattle.implied.specs.Implied.{allowed, Implied};
 ghost use Rattle.cdcl_steps.specs.Search.{Empty};
 
 use crate::solver::Solver;
@@ -12,7 +11,7 @@ use implied::Room;
 impl Solver {
     // Puts the clause into the pool, if there is room.
     fn pool_clause(&mut self, clause: &[u16])
-        requires { (p : ℕ → Bool) → allowed self.old.search.facts.store.row.items p ≡ true → some (lit p) clause.now ≡ true }
+        requires { Implied (allowed self.old.search.facts.store.row.items) clause.now }
         ensures store { self.new.search.facts.store ≡ self.old.search.facts.store }
         ensures trail { self.new.search.trail ≡ self.old.search.trail }
     {
@@ -28,7 +27,7 @@ impl Solver {
 
     // Takes the clause in: a literal alone is known true. Returns whether no way is allowed, as far as that shows at once.
     fn take_in(&mut self, clause: &[u16]) -> bool
-        requires { (p : ℕ → Bool) → allowed self.old.search.facts.store.row.items p ≡ true → some (lit p) clause.now ≡ true }
+        requires { Implied (allowed self.old.search.facts.store.row.items) clause.now }
         ensures store { self.new.search.facts.store ≡ self.old.search.facts.store }
         ensures trail { self.new.search.trail ≡ self.old.search.trail }
         ensures none { result ≡ true → Empty self.new.search.facts.store.row.items }

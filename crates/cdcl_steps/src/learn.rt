@@ -1,7 +1,6 @@
 ghost use Rattle.std.specs.Prelude.{◌≡◌, true};
-ghost use Rattle.implied.specs.Implied.{allowed};
+ghost use Rattle.implied.specs.Implied.{allowed, Implied};
 ghost use Rattle.trail.specs.Trails.{Dead};
-ghost use Rattle.analyze.specs.Analysis.{Drawn};
 ghost use Rattle.decisions.specs.Plans.{Planned};
 ghost use Rattle.cdcl_steps.specs.Search.{Jumps};
 
@@ -13,7 +12,7 @@ use trail::Reason;
 impl Solver {
     // Puts the drawn clause into the pool, if that leaves room for what is added later. Returns its number.
     fn learn(&mut self, glue: u16) -> Option<u32>
-        requires { Drawn (allowed self.old.search.facts.store.row.items) self.old.analyzer.clause.items }
+        requires { Implied (allowed self.old.search.facts.store.row.items) self.old.analyzer.clause.items }
         ensures store { self.new.search.facts.store ≡ self.old.search.facts.store }
         ensures off { self.new.search.facts.off ≡ self.old.search.facts.off }
         ensures trail { self.new.search.trail ≡ self.old.search.trail }

@@ -7,7 +7,7 @@ use activity::Order;
 use analyze::Analyzer;
 use decisions::{Plan, begin, choose, cut_back, settle};
 use forget::forget;
-use implied::{Facts, Pool};
+use implied::{Facts, Pool, Room};
 use outcome::Next;
 use propagate::Watches;
 use rows::{ClauseStore, MOST_ENTRIES};
@@ -48,12 +48,15 @@ impl Solver {
         ensures { IfOk result (λ s. s.search.facts.store ≡ store) }
     {
         let entries = store.entries_left().min(MOST_ENTRIES);
-        let clauses = entries / 3 + CLAUSES;
-        let facts = Facts::new(heap, store, entries + LEARNED, clauses)?;
+        let room = Room {
+            numbers: entries + LEARNED,
+            clauses: entries / 3 + CLAUSES,
+        };
+        let facts = Facts::new(heap, store, room)?;
         Ok(Solver {
             search: Search::new(heap, facts)?,
-            spare: Pool::new(heap, entries + LEARNED, clauses)?,
-            watches: Watches::new(heap, clauses)?,
+            spare: Pool::new(heap, room)?,
+            watches: Watches::new(heap, room.clauses)?,
             analyzer: Analyzer::new(heap)?,
             order: Order::new(heap)?,
             tally: Tally {

@@ -1,10 +1,10 @@
 -- The order of decisions is kept as the trail grows, is cut and is pushed to; and while an assumption is not yet on it, every
 -- decision is an assumption, so that an assumption that is false there leaves no way.
 use Rattle.std.proofs.Common.{◌≡◌, ℕ, zero, suc, ◌+◌, ◌<◌, ◌≤◌, Bool, true, ◌&&◌, ◌⊎◌, List, [], ◌∷◌, ◌++◌, length, get_or, take, ◌≢◌, sym, refl, ap, ◌∙◌, subst, inl, inr, ⊎_elim, arith, length-append}
-use Rattle.std.proofs.lemmas.Bool.{both_ways, cases_eq, cases_lt, and_parts}
+use Rattle.std.proofs.lemmas.Bool.{both_ways, cases_eq, cases_lt, and_parts, false_from_ne_true}
 use Rattle.std.proofs.lemmas.List.{length-take-le}
 use Rattle.chooser.specs.Ways.{lit, every}
-use Rattle.rows.proofs.Lits.{false_from, every_at}
+use Rattle.std.proofs.lemmas.List.Sums.{AllPass-from_list_all}
 use Rattle.implied.specs.Implied.{allowed}
 use Rattle.trail.specs.declared.step.Step.{Step}
 use Rattle.trail.specs.declared.step.Reason.{Reason}
@@ -111,7 +111,7 @@ module _ (X : (ℕ → Bool) → Bool) (values : List Value) (positions given : 
       ⊎_elim
       (λ e. subst (λ j. lit p (literal_at steps j) ≡ true) (sym e) (⊎_elim
       (λ one. ⊎_elim
-      (λ a. ap (lit p) a.2 ∙ every_at (lit p) given a.0 g a.1)
+      (λ a. ap (lit p) a.2 ∙ AllPass-from_list_all (lit p) given g a.0 0 a.1)
       (λ b. let all : next ≡ length given = b.0 in let z : ⊥ = omega arith in absurd z)
       (o.decided k (omega arith) one))
       (λ other. s.grounded k (omega arith) other p x below)
@@ -123,10 +123,10 @@ module _ (X : (ℕ → Bool) → Bool) (values : List Value) (positions given : 
   no_way f =
       both_ways (lit p (get_or given next 0))
       (refuted_off X values positions steps s p (get_or given next 0) (along_to (length steps) (omega arith)) f)
-      (every_at (lit p) given next g lt)
+      (AllPass-from_list_all (lit p) given g next 0 lt)
 
 pub barred : (s : Search) (given : List ℕ) (next firm : ℕ) → Ordered given s.trail.steps.items next firm → next < length given → Refuted s.trail.values (get_or given next 0) → Barred s.facts.store.row.items given
 barred s given next firm o lt f p =
     let row = s.facts.store.row.items in
     let t = s.trail in
-    false_from (allowed row p && every (lit p) given) (λ e. let both = and_parts (allowed row p) (every (lit p) given) e in no_way (allowed row) t.values t.positions given t.steps.items next firm s.steady o lt p both.0 both.1 f)
+    false_from_ne_true (allowed row p && every (lit p) given) (λ e. let both = and_parts (allowed row p) (every (lit p) given) e in no_way (allowed row) t.values t.positions given t.steps.items next firm s.steady o lt p both.0 both.1 f)

@@ -8,9 +8,13 @@ use Rattle.rows.specs.Rows.{holds}
 abbrev pub allowed : List ℕ → (ℕ → Bool) → Bool
 allowed row p = holds (lit p) true 0 row
 
+-- every allowed way meets the clause
+abbrev pub Implied : ((ℕ → Bool) → Bool) → List ℕ → Type 0
+Implied X clause = (p : ℕ → Bool) → X p ≡ true → some (lit p) clause ≡ true
+
 -- every allowed way meets each clause of the list
 abbrev pub Met : ((ℕ → Bool) → Bool) → List (List ℕ) → Type 0
-Met X clauses = (c : ℕ) → c < length clauses → (p : ℕ → Bool) → X p ≡ true → some (lit p) (slice_index_or clauses c []) ≡ true
+Met X clauses = (c : ℕ) → c < length clauses → Implied X (slice_index_or clauses c [])
 
 -- a literal that is marked is false at every allowed way
 abbrev pub Off : ((ℕ → Bool) → Bool) → List Bool → Type 0

@@ -1,6 +1,6 @@
 ghost use Rattle.std.specs.Prelude.{◌≡◌, ℕ, Bool, true, false, [], ◌∷◌, ◌++◌, length, IfOk, MatchOption, slice_index_or, is_ok, if◌then◌else◌, ◌⊎◌};
-ghost use Rattle.chooser.specs.Ways.{lit, some};
-ghost use Rattle.implied.specs.Implied.{allowed, Met, Off};
+ghost use Rattle.chooser.specs.Ways.{lit};
+ghost use Rattle.implied.specs.Implied.{allowed, Implied, Met, Off};
 
 use crate::pool::{Pool, Room};
 use chooser::Fault;
@@ -25,19 +25,14 @@ impl Facts {
     ghost use Rattle.chooser.specs.Steps.{NewVariable, Add};
     ghost use Rattle.rows.specs.Store.{store_means, Spent};
 
-    // Knows nothing but what the store has, which is empty. The pool has room for so many numbers and clauses.
-    pub fn new(
-        heap: Global,
-        store: ClauseStore,
-        numbers: usize,
-        clauses: usize,
-    ) -> Result<Facts, AllocError>
+    // Knows nothing but what the store has, which is empty. The pool has this room.
+    pub fn new(heap: Global, store: ClauseStore, room: Room) -> Result<Facts, AllocError>
         ensures store { IfOk result (λ f. f.store ≡ store) }
         ensures pool { IfOk result (λ f. f.pool ≡ []) }
     {
         Ok(Facts {
             store,
-            pool: Pool::new(heap, numbers, clauses)?,
+            pool: Pool::new(heap, room)?,
             off: vec![in heap; false; MOST_LITERALS]?,
         })
     }
@@ -88,7 +83,7 @@ impl Facts {
     // Puts a clause into the pool that every allowed way meets, and returns its number; None where there is no room, or less than
     // `left` would be left.
     pub fn learn(&mut self, clause: &[u16], left: Room) -> Option<u32>
-        requires { (p : ℕ → Bool) → allowed self.old.store.row.items p ≡ true → some (lit p) clause.now ≡ true }
+        requires { Implied (allowed self.old.store.row.items) clause.now }
         ensures store { self.new.store ≡ self.old.store }
         ensures off { self.new.off ≡ self.old.off }
         ensures pool { MatchOption result (self.new.pool ≡ self.old.pool) (λ c. (c ≡ length self.old.pool) × (self.new.pool ≡ self.old.pool ++ clause.now ∷ [])) }
@@ -108,8 +103,8 @@ impl Facts {
     }
 
     // Allots a variable and returns its number.
-    // Kept as it is: this call and `add` say what the store's own say, here and in `Search` and `Solver`, since the parts of each
-    // are to stay as its ghost fields want them.
+    // Kept as it is: this call and `add` say what the store's own say, here and in `Search` and `Solver`. At `add` each of them
+    // has ghost fields to carry over to the longer row, and no caller is to know which of the two calls has that to do.
     pub fn new_variable(&mut self) -> Result<u16, Fault>
         ensures grows { NewVariable (store_means self.old.store) (store_means self.new.store) result }
         ensures row { self.new.store.row.items ≡ self.old.store.row.items }

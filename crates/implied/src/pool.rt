@@ -37,13 +37,13 @@ impl Model for Pool {
 }
 
 impl Pool {
-    // Makes an empty pool with room for so many numbers and clauses.
-    pub fn new(heap: Global, numbers: usize, clauses: usize) -> Result<Pool, AllocError>
+    // Makes an empty pool with this room.
+    pub fn new(heap: Global, room: Room) -> Result<Pool, AllocError>
         ensures { IfOk result (λ p. p ≡ []) }
     {
         Ok(Pool {
-            numbers: Vec::with_capacity(heap, numbers)?,
-            starts: Vec::with_capacity(heap, clauses)?,
+            numbers: Vec::with_capacity(heap, room.numbers)?,
+            starts: Vec::with_capacity(heap, room.clauses)?,
         })
     }
 
@@ -68,19 +68,22 @@ impl Pool {
     pub fn push(&mut self, clause: &[u16], left: Room) -> Option<u32>
         ensures { MatchOption result (self.new ≡ self.old) (λ c. (c ≡ length self.old) × (self.new ≡ self.old ++ clause.now ∷ [])) }
     {
-        let c = self.starts.len();
-        let start = self.numbers.len();
-        if self.starts.capacity() - c <= left.clauses
-            || self.numbers.capacity() - start <= clause.len().saturating_add(left.numbers)
+        if self.starts.capacity() - self.starts.len() <= left.clauses
+            || self.numbers.capacity() - self.numbers.len()
+                <= clause.len().saturating_add(left.numbers)
             || clause.len() > u16::MAX as usize
-            || start > u32::MAX as usize
-            || c > u32::MAX as usize
         {
             return None;
         }
-        self.starts.push_reserved(start as u32);
+        let Ok(c) = u32::try_from(self.starts.len()) else {
+            return None;
+        };
+        let Ok(start) = u32::try_from(self.numbers.len()) else {
+            return None;
+        };
+        self.starts.push_reserved(start);
         push_clause(&mut self.numbers, clause);
-        Some(c as u32)
+        Some(c)
     }
 
     // Takes all clauses out.

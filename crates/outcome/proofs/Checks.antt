@@ -1,15 +1,16 @@
 -- The clauses of a row, and what the first of them shows that written values do not meet. A literal that the written values make
 -- false is false on the trail or open; a clause of such literals, none of them open, shows the trail dead.
 use Rattle.std.proofs.Common.{◌≡◌, ℕ, ◌+◌, ◌/◌, ◌%◌, ◌<◌, Bool, true, false, not, ◌||◌, eqb, List, [], ◌∷◌, length, get_or, Option, Some, None, MatchOption, All, Contains, Bor, sym, refl, ap, ◌∙◌, subst, ⊎_elim, arith, add-one}
-use Rattle.std.specs.List.{find, list_any}
+use Rattle.std.specs.List.{find}
 use Rattle.std.proofs.lemmas.Bool.{both_ways, cases_eq, cases_Bool, cond-true, cond-false, eqb-true, eqb-false, eq-eqb, ne_eqb, not-true, not-false}
-use Rattle.std.proofs.lemmas.List.Elements.{All-nil, All-cons, All-contains, All-weaker}
+use Rattle.std.proofs.lemmas.List.Elements.{All-nil, All-cons, All-contains, All-weaker, All-from_get_or}
 use Rattle.std.proofs.lemmas.List.Sums.{AllPass-from_list_all, list_all-from_AllPass}
 use Rattle.chooser.specs.Ways.{lit, some, every, allotted, written}
 use Rattle.rows.specs.Rows.{holds, inside, clauses_of}
 use Rattle.rows.proofs.Clauses.{holds_clauses, clauses_named}
-use Rattle.rows.proofs.Lits.{every_from, some_none}
+use Rattle.std.proofs.lemmas.List.Folds.{list_any_none}
 use Rattle.std.specs.Option.{option_map}
+use Rattle.implied.specs.Implied.{Implied}
 use Rattle.trail.specs.declared.step.Step.{Step}
 use Rattle.trail.specs.declared.step.Value.{Value}
 use Rattle.trail.specs.declared.step.Value.TheVariants.{False, True, Open}
@@ -17,11 +18,6 @@ use Rattle.trail.specs.Trails.{literal_at, Dead, Sound}
 use Rattle.trail.specs.Values.{value_at, Free, Refuted}
 use Rattle.trail.proofs.Sounds.{refuted_off}
 use Rattle.outcome.specs.Outcome.{byte_of, Copied, Failing, Missed}
-
--- some literal passes, as the library says it
-pub any_some : (f : ℕ → Bool) (xs : List ℕ) → list_any f xs ≡ some f xs
-any_some f [] = refl
-any_some f (x ∷ xs) = ap (λ b. f x || b) (any_some f xs)
 
 -- what is found is the first that passes; where nothing is, each fails
 pub found : {X : Type 0} (test : X → Bool) (xs : List X) → MatchOption (find test xs) (All (λ x. test x ≡ false) xs) (λ x. Contains xs x × (test x ≡ true))
@@ -72,7 +68,7 @@ module _ (given out : List ℕ) where
   pub first_denied : (r : Option ℕ) → r ≡ find off given → MatchOption r (every (lit (written out)) given ≡ true) (λ g. Missed given out g)
   first_denied r e =
       elim r as (λ o. MatchOption o (All (λ g. off g ≡ false) given) (λ g. Contains given g × (off g ≡ true)) → MatchOption o (every (lit (written out)) given ≡ true) (λ g. Missed given out g)) [
-        | None ↦ λ h. every_from (lit (written out)) given (λ k lt. not-false (lit (written out) (get_or given k 0)) (h k 0 lt))
+        | None ↦ λ h. list_all-from_AllPass (lit (written out)) given (λ k d lt. not-false (lit (written out) (get_or given k d)) (h k d lt))
         | Some g ↦ λ h. record { among = h.0; off = not-true (lit (written out) g) h.1 }
       ] (subst (λ o. MatchOption o (All (λ g. off g ≡ false) given) (λ g. Contains given g × (off g ≡ true))) (sym e) (found off given))
 
@@ -104,9 +100,9 @@ refuted_from values out l c lt shut off =
 
 module _ (X : (ℕ → Bool) → Bool) (values : List Value) (positions : List ℕ) (steps : List Step) (s : Sound X values positions steps) where
   -- a clause that each allowed way meets, of false literals
-  pub all_refuted : (c : List ℕ) → ((p : ℕ → Bool) → X p ≡ true → some (lit p) c ≡ true) → ((k : ℕ) → k < length c → Refuted values (get_or c k 0)) → Dead X steps
+  pub all_refuted : (c : List ℕ) → Implied X c → ((k : ℕ) → k < length c → Refuted values (get_or c k 0)) → Dead X steps
   all_refuted c known f p x along =
-      both_ways (some (lit p) c) (some_none (lit p) c (λ k lt. refuted_off X values positions steps s p (get_or c k 0) along (f k lt))) (known p x)
+      both_ways (some (lit p) c) (list_any_none (lit p) c (All-from_get_or (λ l. lit p l ≡ false) c 0 (λ k lt. refuted_off X values positions steps s p (get_or c k 0) along (f k lt)))) (known p x)
 
   -- an assumption on the trail that is false there
   pub both_dead : (g j : ℕ) → j < length steps → literal_at steps j ≡ g → Refuted values g → Dead X steps

@@ -2,7 +2,7 @@
 use Rattle.std.specs.Prelude.{◌≡◌, ℕ, ◌≤◌, Bool, true, false, ◌&&◌, List, length, Contains, slice_index}
 use Rattle.chooser.specs.Ways.{lit, some, every, allotted, written, bits}
 use Rattle.rows.specs.Rows.{inside, holds}
-use Rattle.implied.specs.Implied.{allowed}
+use Rattle.implied.specs.Implied.{allowed, Implied}
 use Rattle.trail.specs.Trails.{Dead}
 use Rattle.trail.specs.Values.{value_at, Free}
 use Rattle.trail.specs.declared.step.Step.{Step}
@@ -29,7 +29,7 @@ Copied values out k = slice_index out k ≡ byte_of (value_at values k)
 
 -- the clause is one that every allowed way meets, over the variables that `out` has, and `out` does not meet it
 pub record Failing (row out clause : List ℕ) : Type 0 where
-  pub known : (p : ℕ → Bool) → allowed row p ≡ true → some (lit p) clause ≡ true
+  pub known : Implied (allowed row) clause
   pub named : allotted (length out) clause ≡ true
   pub off : some (lit (written out)) clause ≡ false
 

@@ -7,7 +7,7 @@ ghost use Rattle.rows.specs.Store.{Spent};
 ghost use Rattle.plain.specs.Means.{plain_means, plain_laws};
 ghost use Rattle.rows.specs.declared.store.TheConstants.{MOST_VARIABLES};
 
-use backtrack::solve;
+use backtrack::{Steps, solve};
 use chooser::{Answer, Chooser, Fault, MakeFault};
 use rows::{ClauseStore, MOST_VARIABLES};
 use std::alloc::Global;
@@ -23,7 +23,7 @@ impl Plain {
     {
         Ok(Plain {
             clauses: ClauseStore::new(heap, entries)?,
-            trail: Vec::with_capacity(heap, MOST_VARIABLES)?,
+            trail: Steps::new(heap)?,
         })
     }
 }

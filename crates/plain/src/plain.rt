@@ -1,7 +1,4 @@
-ghost use Rattle.std.specs.Prelude.{◌≤◌, vec_capacity};
-ghost use Rattle.rows.specs.declared.store.TheConstants.{MOST_VARIABLES};
-
-use backtrack::Step;
+use backtrack::Steps;
 use rows::ClauseStore;
 
 // The plain chooser. Its memory is reserved once, when it is made: two bytes for each entry, and for the search four bytes for
@@ -10,6 +7,5 @@ use rows::ClauseStore;
 pub struct Plain {
     pub(crate) clauses: ClauseStore,
     // Working memory of the search.
-    pub(crate) trail: Vec<Step>,
-    ghost roomy: { MOST_VARIABLES ≤ vec_capacity trail },
+    pub(crate) trail: Steps,
 }

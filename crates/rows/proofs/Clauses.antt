@@ -4,10 +4,9 @@ use mathlib.Core.Bool.{and-true, or-false, or_assoc}
 use lib.Dec.{eqb-suc-zero}
 use Rattle.std.proofs.lemmas.List.{take_all, drop_all, length-take-le}
 use Rattle.std.proofs.lemmas.List.Sums.{sum_by-cons}
-use Rattle.std.proofs.lemmas.Bool.{eqb-true, cases_lt, and_parts, and_from, both_ways, cond-false}
+use Rattle.std.proofs.lemmas.Bool.{eqb-true, cases_lt, and_parts, and_from, both_ways, cond-false, false_from_ne_true}
 use Rattle.std.specs.List.{list_all, sum_by}
 use Rattle.chooser.specs.Ways.{some, allotted}
-use Rattle.rows.proofs.Lits.{false_from}
 use Rattle.rows.specs.Rows.{inside, holds, clauses_behind, clauses_of}
 
 pub record Whole (v n : ℕ) (xs : List ℕ) : Type 0 where
@@ -27,10 +26,10 @@ inside_clause v (suc n) (x ∷ xs) e =
 -- one clause more is whole, or it is cut short or has a literal that is not allotted
 module _ (v : ℕ) where
   pub inside_short : (n : ℕ) (xs : List ℕ) → length xs < n → inside v n xs ≡ false
-  inside_short n xs lt = false_from (inside v n xs) (λ e. let h = (inside_clause v n xs e).fits in omega arith)
+  inside_short n xs lt = false_from_ne_true (inside v n xs) (λ e. let h = (inside_clause v n xs e).fits in omega arith)
 
   pub inside_strange : (n : ℕ) (xs : List ℕ) → allotted v (take n xs) ≡ false → inside v n xs ≡ false
-  inside_strange n xs off = false_from (inside v n xs) (λ e. both_ways (allotted v (take n xs)) off (inside_clause v n xs e).named)
+  inside_strange n xs off = false_from_ne_true (inside v n xs) (λ e. both_ways (allotted v (take n xs)) off (inside_clause v n xs e).named)
 
   pub inside_next : (n : ℕ) (xs : List ℕ) → n ≤ length xs → allotted v (take n xs) ≡ true → inside v n xs ≡ inside v 0 (drop n xs)
   inside_next zero xs le on = refl

@@ -1,14 +1,10 @@
 -- Literals under two ways, and lists of literals of which some or every one passes.
-use Rattle.std.proofs.Common.{◌≡◌, ℕ, zero, suc, ◌+◌, ◌-◌, ◌*◌, ◌/◌, ◌%◌, ◌<◌, Bool, true, false, cond, not, ◌&&◌, ◌||◌, eqb, ltb, ◌⊎◌, List, [], ◌∷◌, ◌++◌, length, get_or, sym, refl, ap, ◌∙◌, subst, ⊎_elim, arith}
-use mathlib.Core.Bool.{and_assoc, or_assoc}
-use Rattle.std.proofs.lemmas.Bool.{and_parts, and_from, or_cases, or_left, or_right, not-true, both_ways, ltb-true, lt-ltb, le-ltb, cases_lt, cases_eq, cond-true, cond-false, eq-eqb, ne_eqb}
-use Rattle.std.specs.List.{list_all}
+use Rattle.std.proofs.Common.{◌≡◌, ℕ, suc, ◌+◌, ◌-◌, ◌*◌, ◌/◌, ◌%◌, ◌<◌, Bool, true, false, cond, not, ◌&&◌, eqb, ltb, ◌⊎◌, List, [], ◌∷◌, length, get_or, sym, refl, ap, ◌∙◌, subst, ⊎_elim, arith}
+use Rattle.std.proofs.lemmas.Bool.{and_parts, or_cases, not-true, both_ways, ltb-true, lt-ltb, le-ltb, cases_lt, cases_eq, cond-true, cond-false, eq-eqb, ne_eqb}
+use Rattle.std.proofs.lemmas.List.Elements.{All-from_get_or}
+use Rattle.std.proofs.lemmas.List.Sums.{AllPass-from_list_all, list_all-from_AllPass}
 use Rattle.chooser.specs.Ways.{lit, some, every, allotted, bits}
 use Rattle.rows.specs.Lits.{opposite}
-
-pub false_from : (b : Bool) → (b ≡ true → ⊥) → b ≡ false
-false_from true h = absurd (h refl)
-false_from false h = refl
 
 -- a literal says the same of two ways that give its variable one value
 pub lit_same : (p q : ℕ → Bool) (l : ℕ) → p (l / 2) ≡ q (l / 2) → lit p l ≡ lit q l
@@ -27,10 +23,6 @@ pub lit_below : (p q : ℕ → Bool) (v : ℕ) → ((k : ℕ) → k < v → p k 
 lit_below p q v h l lt = lit_same p q l (h (l / 2) (omega arith))
 
 module _ (f : ℕ → Bool) where
-  pub some_none : (c : List ℕ) → ((k : ℕ) → k < length c → f (get_or c k 0) ≡ false) → some f c ≡ false
-  some_none [] h = refl
-  some_none (x ∷ xs) h = ap (λ b. b || some f xs) (h 0 (omega arith)) ∙ some_none xs (λ k l. h (suc k) (omega arith))
-
   -- where all but one literal fail, that one passes
   pub some_only : (q : ℕ) (c : List ℕ) → ((k : ℕ) → k < length c → (f (get_or c k 0) ≡ false) ⊎ (get_or c k 0 ≡ q)) → some f c ≡ true → f q ≡ true
   some_only q [] h e = absurd (both_ways false refl e)
@@ -40,39 +32,12 @@ module _ (f : ℕ → Bool) where
       (λ b. some_only q xs (λ k l. h (suc k) (omega arith)) b)
       (or_cases (f x) (some f xs) e)
 
-  pub some_at : (c : List ℕ) (k : ℕ) → k < length c → f (get_or c k 0) ≡ true → some f c ≡ true
-  some_at [] k lt e = let z : ⊥ = omega arith in absurd z
-  some_at (x ∷ xs) zero lt e = or_left (f x) (some f xs) e
-  some_at (x ∷ xs) (suc k) lt e = or_right (f x) (some f xs) (some_at xs k (omega arith) e)
-
-  pub every_at : (c : List ℕ) (k : ℕ) → every f c ≡ true → k < length c → f (get_or c k 0) ≡ true
-  every_at [] k e lt = let z : ⊥ = omega arith in absurd z
-  every_at (x ∷ xs) zero e lt = (and_parts (f x) (every f xs) e).0
-  every_at (x ∷ xs) (suc k) e lt = every_at xs k (and_parts (f x) (every f xs) e).1 (omega arith)
-
-  pub every_from : (c : List ℕ) → ((k : ℕ) → k < length c → f (get_or c k 0) ≡ true) → every f c ≡ true
-  every_from [] h = refl
-  every_from (x ∷ xs) h = and_from (f x) (every f xs) (h 0 (omega arith)) (every_from xs (λ k l. h (suc k) (omega arith)))
-
-pub every_append : (f : ℕ → Bool) (xs ys : List ℕ) → every f (xs ++ ys) ≡ (every f xs && every f ys)
-every_append f [] ys = refl
-every_append f (x ∷ xs) ys = ap (λ b. f x && b) (every_append f xs ys) ∙ sym (and_assoc (f x) (every f xs) (every f ys))
-
-pub some_append : (f : ℕ → Bool) (xs ys : List ℕ) → some f (xs ++ ys) ≡ (some f xs || some f ys)
-some_append f [] ys = refl
-some_append f (x ∷ xs) ys = ap (λ b. f x || b) (some_append f xs ys) ∙ sym (or_assoc (f x) (some f xs) (some f ys))
-
--- each passes, as the library says it
-pub every_all : (f : ℕ → Bool) (xs : List ℕ) → list_all f xs ≡ every f xs
-every_all f [] = refl
-every_all f (x ∷ xs) = ap (λ b. f x && b) (every_all f xs)
-
 -- half of a literal, as the code tests it
 pub half_below : (l v : ℕ) → ltb (l / 2) v ≡ ltb l (2 * v)
 half_below l v = ⊎_elim (λ lt. lt-ltb (l / 2) v (omega arith) ∙ sym (lt-ltb l (2 * v) lt)) (λ ge. le-ltb (l / 2) v (omega arith) ∙ sym (le-ltb l (2 * v) ge)) (cases_lt l (2 * v))
 
 pub allotted_at : (v : ℕ) (c : List ℕ) (k : ℕ) → allotted v c ≡ true → k < length c → get_or c k 0 < 2 * v
-allotted_at v c k e lt = ltb-true (get_or c k 0) (2 * v) (every_at (λ l. ltb l (2 * v)) c k e lt)
+allotted_at v c k e lt = ltb-true (get_or c k 0) (2 * v) (AllPass-from_list_all (λ l. ltb l (2 * v)) c e k 0 lt)
 
 pub every_same : (f g : ℕ → Bool) (v : ℕ) → ((l : ℕ) → l < 2 * v → f l ≡ g l) → (xs : List ℕ) → allotted v xs ≡ true → every f xs ≡ every g xs
 every_same f g v h [] e = refl
@@ -81,7 +46,7 @@ every_same f g v h (x ∷ xs) e =
     ap (λ b. b && every f xs) (h x (ltb-true x (2 * v) p.0)) ∙ ap (λ b. g x && b) (every_same f g v h xs p.1)
 
 pub bits_from : (xs : List ℕ) → ((k : ℕ) → k < length xs → get_or xs k 0 < 2) → bits xs ≡ true
-bits_from xs h = every_from (λ x. ltb x 2) xs (λ k l. lt-ltb (get_or xs k 0) 2 (h k l))
+bits_from xs h = list_all-from_AllPass (λ x. ltb x 2) xs (All-from_get_or (λ x. ltb x 2 ≡ true) xs 0 (λ k l. lt-ltb (get_or xs k 0) 2 (h k l)))
 
 twice : (b : Bool) → b ≡ not (not b)
 twice true = refl

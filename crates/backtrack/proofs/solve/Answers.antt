@@ -23,52 +23,46 @@ less_to n was a b e h = subst (λ w. 3 ^ n - load n w < 3 ^ n - was) (sym e) h
 pub loop-l-init : goal.loop-l-init
 loop-l-init c =
     let out = c.fill.new.self in
-    let same : out ≡ replicate (length c.args.values.now) 2 = c.fill.ensures.after (λ y e. e) in (
-      subst (Trail (allowed c.args.row.now c.args.assumptions.now) out) (sym c.clear.ensures.items)
-          (trail_start (allowed c.args.row.now c.args.assumptions.now) out (λ k lt. ap (λ xs. get_or xs k 0) same ∙ get_or-replicate (length c.args.values.now) k 2 0 (omega arith))),
-      c.clear.ensures.capacity,
-    )
+    let same : out ≡ replicate (length c.args.values.now) 2 = c.fill.ensures.after (λ y e. e) in
+    subst (Trail (allowed c.args.row.now c.args.assumptions.now) out) (sym c.clear.ensures.items)
+    (trail_start (allowed c.args.row.now c.args.assumptions.now) out (λ k lt. ap (λ xs. get_or xs k 0) same ∙ get_or-replicate (length c.args.values.now) k 2 0 (omega arith)))
 
 pub loop-l-smaller-in-Ok-Moved : goal.loop-l-smaller-in-Ok-Moved
 loop-l-smaller-in-Ok-Moved c =
-    let h = c.in-Ok-Moved.ensures.swept in
-    let ends = subst (Passed (allowed c.args.row.now c.args.assumptions.now) h.more c.sweep.new.values c.sweep.new.trail.items) c.in-Ok-Moved.field-0-is h.ends in
-    moved_less (allowed c.args.row.now c.args.assumptions.now) c.loop-l.trail.items c.sweep.new.values c.sweep.new.trail.items h.more (length c.fill.new.self) (c.sweep.auto.values ∙ c.loop-l.auto.values) h.goes h.grown ends
+    let h = c.in-Ok-Moved.ensures in
+    let ends = subst (Passed (allowed c.args.row.now c.args.assumptions.now) h.more c.sweep.new.values c.sweep.new.trail.list.items) c.in-Ok-Moved.field-0-is h.ends in
+    moved_less (allowed c.args.row.now c.args.assumptions.now) c.loop-l.trail.list.items c.sweep.new.values c.sweep.new.trail.list.items h.more (length c.fill.new.self) (c.sweep.auto.values ∙ c.loop-l.auto.values) h.goes h.grown ends
 
 pub push-requires-clause-room : goal.push-requires-clause-room
 push-requires-clause-room c =
-    let h = c.in-Ok-Open.ensures.swept in
-    let ends = subst (Passed (allowed c.args.row.now c.args.assumptions.now) h.more c.sweep.new.values c.sweep.new.trail.items) c.in-Ok-Open.field-0-is h.ends in
-    let lt = room (allowed c.args.row.now c.args.assumptions.now) c.sweep.new.values c.sweep.new.trail.items h.goes c.in-Ok-Open.l ends in
+    let h = c.in-Ok-Open.ensures in
+    let ends = subst (Passed (allowed c.args.row.now c.args.assumptions.now) h.more c.sweep.new.values c.sweep.new.trail.list.items) c.in-Ok-Open.field-0-is h.ends in
+    let lt = room (allowed c.args.row.now c.args.assumptions.now) c.sweep.new.values c.sweep.new.trail.list.items h.goes c.in-Ok-Open.l ends in
     let size : length c.sweep.new.values ≡ length c.args.values.now = c.sweep.auto.values ∙ c.loop-l.auto.values ∙ c.fill.ensures.len in
-    let v = c.sweep.new.trail in
-    let long = v.ok in
     let most = c.requires.room in
-    omega (arith, c.in-Ok-Open.ensures.capacity, c.loop-l.invariant.1)
+    omega arith
 
 pub loop-l-smaller-in-Ok-Open : goal.loop-l-smaller-in-Ok-Open
 loop-l-smaller-in-Ok-Open c =
-    let h = c.in-Ok-Open.ensures.swept in
-    let ends = subst (Passed (allowed c.args.row.now c.args.assumptions.now) h.more c.sweep.new.values c.sweep.new.trail.items) c.in-Ok-Open.field-0-is h.ends in
-    less_to (length c.fill.new.self) _ _ c.push.new.trail.items c.push.ensures.trail
-    (open_less (allowed c.args.row.now c.args.assumptions.now) c.loop-l.trail.items c.sweep.new.values c.sweep.new.trail.items h.more (length c.fill.new.self) (c.sweep.auto.values ∙ c.loop-l.auto.values) h.goes h.grown c.in-Ok-Open.l ends)
+    let h = c.in-Ok-Open.ensures in
+    let ends = subst (Passed (allowed c.args.row.now c.args.assumptions.now) h.more c.sweep.new.values c.sweep.new.trail.list.items) c.in-Ok-Open.field-0-is h.ends in
+    less_to (length c.fill.new.self) _ _ c.push.new.self.list.items c.push.ensures.trail
+    (open_less (allowed c.args.row.now c.args.assumptions.now) c.loop-l.trail.list.items c.sweep.new.values c.sweep.new.trail.list.items h.more (length c.fill.new.self) (c.sweep.auto.values ∙ c.loop-l.auto.values) h.goes h.grown c.in-Ok-Open.l ends)
 
 pub loop-l-preserved-in-Ok-Open : goal.loop-l-preserved-in-Ok-Open
 loop-l-preserved-in-Ok-Open c =
-    let h = c.in-Ok-Open.ensures.swept in
-    let ends = subst (Passed (allowed c.args.row.now c.args.assumptions.now) h.more c.sweep.new.values c.sweep.new.trail.items) c.in-Ok-Open.field-0-is h.ends in (
-      trail_to _ _ _ _ _ c.push.ensures.values c.push.ensures.trail
-          (open_again (allowed c.args.row.now c.args.assumptions.now) c.loop-l.trail.items c.sweep.new.values c.sweep.new.trail.items h.more (length c.fill.new.self) (c.sweep.auto.values ∙ c.loop-l.auto.values) h.goes h.grown c.in-Ok-Open.l ends),
-      c.push.ensures.capacity ∙ c.in-Ok-Open.ensures.capacity ∙ c.loop-l.invariant.1,
-    )
+    let h = c.in-Ok-Open.ensures in
+    let ends = subst (Passed (allowed c.args.row.now c.args.assumptions.now) h.more c.sweep.new.values c.sweep.new.trail.list.items) c.in-Ok-Open.field-0-is h.ends in
+    trail_to _ _ _ _ _ c.push.ensures.values c.push.ensures.trail
+    (open_again (allowed c.args.row.now c.args.assumptions.now) c.loop-l.trail.list.items c.sweep.new.values c.sweep.new.trail.list.items h.more (length c.fill.new.self) (c.sweep.auto.values ∙ c.loop-l.auto.values) h.goes h.grown c.in-Ok-Open.l ends)
 
-pub returns-in-Ok-Met-clause-solved : goal.returns-in-Ok-Met-clause-solved
-returns-in-Ok-Met-clause-solved c =
+pub returns-in-Ok-Met : goal.returns-in-Ok-Met
+returns-in-Ok-Met c =
     let row = c.args.row.now in
     let assumptions = c.args.assumptions.now in
     let values = c.sweep.new.values in
-    let h = c.in-Ok-Met.ensures.swept in
-    let ends = subst (Passed (allowed c.args.row.now c.args.assumptions.now) h.more c.sweep.new.values c.sweep.new.trail.items) c.in-Ok-Met.field-0-is h.ends in
+    let h = c.in-Ok-Met.ensures in
+    let ends = subst (Passed (allowed c.args.row.now c.args.assumptions.now) h.more c.sweep.new.values c.sweep.new.trail.list.items) c.in-Ok-Met.field-0-is h.ends in
     let size : length c.args.values.now ≡ length values = sym (c.sweep.auto.values ∙ c.loop-l.auto.values ∙ c.fill.ensures.len) in
     finished row assumptions values c.finish.new.values c.finish.auto.values h.goes.small c.finish.ensures
     (subst (λ k. inside k 0 row ≡ true) size c.requires.row)
@@ -78,18 +72,16 @@ returns-in-Ok-Met-clause-solved c =
 pub loop-l-smaller : goal.loop-l-smaller
 loop-l-smaller c =
     let X = allowed c.args.row.now c.args.assumptions.now in
-    let h = c.in-Err.ensures.swept in
-    let u = c.in-Some.ensures.back X h.goes h.dead in
-    less_to (length c.fill.new.self) _ _ c.push-in-Err.new.trail.items (c.push-in-Err.ensures.trail ∙ ap (λ l. c.take_back.new.trail.items ++ (Follows l ∷ [])) c.turned.ensures.value)
-    (clash_less X c.loop-l.trail.items c.sweep.new.values c.sweep.new.trail.items h.more (length c.fill.new.self) (c.sweep.auto.values ∙ c.loop-l.auto.values) h.goes h.grown c.take_back.new.values c.take_back.new.trail.items c.in-Some.l u (c.take_back.auto.values ∙ c.sweep.auto.values ∙ c.loop-l.auto.values))
+    let h = c.in-Err.ensures in
+    let u = c.in-Some.ensures X h.goes h.dead in
+    less_to (length c.fill.new.self) _ _ c.push-in-Err.new.self.list.items (c.push-in-Err.ensures.trail ∙ ap (λ l. c.take_back.new.self.list.items ++ (Follows l ∷ [])) c.turned.ensures.value)
+    (clash_less X c.loop-l.trail.list.items c.sweep.new.values c.sweep.new.trail.list.items h.more (length c.fill.new.self) (c.sweep.auto.values ∙ c.loop-l.auto.values) h.goes h.grown c.take_back.new.values c.take_back.new.self.list.items c.in-Some.l u (c.take_back.auto.values ∙ c.sweep.auto.values ∙ c.loop-l.auto.values))
 
 pub loop-l-preserved : goal.loop-l-preserved
 loop-l-preserved c =
     let X = allowed c.args.row.now c.args.assumptions.now in
-    let h = c.in-Err.ensures.swept in
-    let u = c.in-Some.ensures.back X h.goes h.dead in
-    let is = c.turned.ensures.value in (
-      trail_to _ _ _ _ _ (c.push-in-Err.ensures.values ∙ ap (λ l. set c.take_back.new.values (l / 2) (bit l)) is) (c.push-in-Err.ensures.trail ∙ ap (λ l. c.take_back.new.trail.items ++ (Follows l ∷ [])) is)
-          (clash_again X c.loop-l.trail.items c.sweep.new.values c.sweep.new.trail.items h.more (length c.fill.new.self) (c.sweep.auto.values ∙ c.loop-l.auto.values) h.goes h.grown c.take_back.new.values c.take_back.new.trail.items c.in-Some.l u),
-      c.push-in-Err.ensures.capacity ∙ c.in-Some.ensures.capacity ∙ c.in-Err.ensures.capacity ∙ c.loop-l.invariant.1,
-    )
+    let h = c.in-Err.ensures in
+    let u = c.in-Some.ensures X h.goes h.dead in
+    let is = c.turned.ensures.value in
+    trail_to _ _ _ _ _ (c.push-in-Err.ensures.values ∙ ap (λ l. set c.take_back.new.values (l / 2) (bit l)) is) (c.push-in-Err.ensures.trail ∙ ap (λ l. c.take_back.new.self.list.items ++ (Follows l ∷ [])) is)
+    (clash_again X c.loop-l.trail.list.items c.sweep.new.values c.sweep.new.trail.list.items h.more (length c.fill.new.self) (c.sweep.auto.values ∙ c.loop-l.auto.values) h.goes h.grown c.take_back.new.values c.take_back.new.self.list.items c.in-Some.l u)

@@ -1,5 +1,5 @@
 -- What is known while assumptions and clauses are left.
-use Rattle.std.proofs.Common.{◌≡◌, ◌++◌, true, length, drop, vec_capacity}
+use Rattle.std.proofs.Common.{◌≡◌, ◌++◌, true, length, drop}
 use Rattle.std.specs.List.{list_all}
 use Rattle.chooser.specs.Ways.{allotted}
 use Rattle.rows.specs.Rows.{clauses_of}
@@ -10,13 +10,11 @@ use Rattle.backtrack.proofs.sweep.Given as goal
 
 abbrev pub invariant-loop-l : goal.invariant-loop-l
 invariant-loop-l l =
-    Passing (allowed l.row l.assumptions) (singles (drop l.l-index l.assumptions) ++ clauses_of l.row) l.fn.trail.items l.values l.trail.items l.«open»
-    × (vec_capacity l.trail ≡ vec_capacity l.fn.trail)
+    Passing (allowed l.row l.assumptions) (singles (drop l.l-index l.assumptions) ++ clauses_of l.row) l.fn.trail.list.items l.values l.trail.list.items l.«open»
 
 abbrev pub invariant-loop-clause : goal.invariant-loop-clause
 invariant-loop-clause l =
     (goal.iterator-loop-clause).can_next l.clause-iterator
     × (goal.iterator-loop-clause).is_finite l.clause-iterator
-    × Passing (allowed l.row l.assumptions) (clauses_left l.clause-iterator) l.fn.trail.items l.values l.trail.items l.«open»
+    × Passing (allowed l.row l.assumptions) (clauses_left l.clause-iterator) l.fn.trail.list.items l.values l.trail.list.items l.«open»
     × (list_all (allotted (length l.values)) (clauses_left l.clause-iterator) ≡ true)
-    × (vec_capacity l.trail ≡ vec_capacity l.fn.trail)

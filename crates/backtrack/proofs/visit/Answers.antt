@@ -8,13 +8,11 @@ pub push-requires-clause-room : goal.push-requires-clause-room
 push-requires-clause-room c =
     let h = c.in-Forced.ensures.0 in
     let below : c.in-Forced.l / 2 < length c.args.values.now = let a = h.0 in omega arith in
-    let v = c.args.trail.now in
-    let long = v.ok in
     let room = c.requires.room in
-    omega (arith, opens_shut c.args.values.now (c.in-Forced.l / 2) 0 below h.1 (λ e. omega arith))
+    omega (arith, opens_shut c.args.values.now (c.in-Forced.l / 2) below 0 h.1 (λ e. omega arith))
 
-pub returns-in-Forced-clause-visited : goal.returns-in-Forced-clause-visited
-returns-in-Forced-clause-visited c X left start now =
+pub returns-in-Forced : goal.returns-in-Forced
+returns-in-Forced c X left start now =
     let told = c.in-Forced.ensures in
     let made = c.push.ensures in
-    rw (made.values, made.trail) (pass_push X c.args.clause.now left start c.args.values.now c.args.trail.now.items c.args.«open».now now c.in-Forced.l told.0 told.1)
+    rw (made.values, made.trail) (pass_push X c.args.clause.now left start c.args.values.now c.args.trail.now.list.items c.args.«open».now now c.in-Forced.l told.0 told.1)

@@ -1,9 +1,10 @@
 use Rattle.std.proofs.Common.{ℕ, ◌*◌, ◌/◌, ◌<◌, length, get_or, None, arith, rules}
-use Rattle.std.proofs.lemmas.Bool.{both_ways}
+use Rattle.std.proofs.lemmas.Bool.{both_ways, false_from_ne_true}
+use Rattle.std.proofs.lemmas.List.Folds.{list_any_at}
 use Rattle.std.proofs.lemmas.Iterator.{YieldsList-from_slice, first_from_find}
 use borrow.Author.Tests.{tests}
 use Rattle.chooser.specs.Ways.{lit, written}
-use Rattle.rows.proofs.Lits.{false_from, some_at, allotted_at}
+use Rattle.rows.proofs.Lits.{allotted_at}
 use Rattle.implied.specs.Implied.{allowed}
 use Rattle.trail.specs.Values.{Free}
 use Rattle.outcome.proofs.Checks.{all_refuted, refuted_from}
@@ -25,4 +26,4 @@ returns-in-None c =
     let l = get_or clause k 0 in
     let below : l < 2 * length out = allotted_at (length out) clause k failing.named lt in
     refuted_from t.values out l (c.requires.copied (l / 2) (omega arith)) (omega arith) (shut k lt)
-    (false_from (lit (written out) l) (λ e. both_ways _ failing.off (some_at (lit (written out)) clause k lt e))))
+    (false_from_ne_true (lit (written out) l) (λ e. both_ways _ failing.off (list_any_at (lit (written out)) clause k 0 lt e))))
