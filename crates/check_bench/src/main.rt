@@ -16,17 +16,10 @@ fn problem_of(heap: Global, size: u16) -> Result<Vec<u8>, AllocError> {
     let term = size.saturating_sub(15);
     bytes.extend_from_slice(&[0x47, 0x4C])?;
     bytes.extend_from_slice(&term.to_be_bytes())?;
-    for _ in 0..term / 11 {
-        if bytes.len() + 11 + 3 + 2 > usize::from(size) {
-            break;
-        }
+    for _ in 0..term.saturating_sub(3) / 11 {
         bytes.extend_from_slice(&[5, 7, 1, 1, 0, 2, 1, 1, 2, 1, 0])?;
     }
-    for _ in 0..11 {
-        if bytes.len() + 3 + 2 < usize::from(size) {
-            bytes.push(6)?;
-        }
-    }
+    bytes.resize_with(usize::from(size).saturating_sub(5), || 6)?;
     bytes.extend_from_slice(&[2, 0, 1, 0x45, 0x4E])?;
     Ok(bytes)
 }
@@ -51,21 +44,23 @@ fn measure(rt: &HostRuntime, size: u16, times: u32) -> io::Result<()> {
     println!(rt; "{size} bytes, accepted {accepted} times, {rate} bytes a second")
 }
 
+fn tell(rt: &HostRuntime, size: u16) -> io::Result<()> {
+    let bytes = problem_of(rt.alloc(), size)?;
+    let accepted = check(bytes.as_slice()).is_ok();
+    let length = bytes.len();
+    println!(rt; "{length} bytes, accepted {accepted}")
+}
+
 fn main(rt: HostRuntime) -> io::Result<()> {
     let mut args = env::args(&rt)?;
     let _program = args.next();
-    let times = match args.next() {
-        Some(text) => text.as_str().parse::<u32>().unwrap_or(1),
-        None => 0,
-    };
+    let times = args
+        .next()
+        .map(|text| text.as_str().parse::<u32>().unwrap_or(1));
     for size in SIZES {
-        if times > 0 {
-            measure(&rt, size, times)?;
-        } else {
-            let bytes = problem_of(rt.alloc(), size)?;
-            let accepted = check(bytes.as_slice()).is_ok();
-            let length = bytes.len();
-            println!(rt; "{length} bytes, accepted {accepted}")?;
+        match times {
+            Some(times) => measure(&rt, size, times)?,
+            None => tell(&rt, size)?,
         }
     }
     Ok(())

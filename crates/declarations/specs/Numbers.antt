@@ -1,6 +1,6 @@
 -- The type numbers outside terms, with their places, front to back; and the first that names no type. Assumes nothing.
-use Rattle.std.specs.List.{flat_map}
-use Rattle.std.specs.Prelude.{ℕ, ◌+◌, ◌<◌, ◌≤◌, cond, List, [], ◌∷◌, ◌++◌, length, Some, None, Option, nat_lt, slice_index_or}
+use Rattle.std.specs.List.{flat_map, All}
+use Rattle.std.specs.Prelude.{ℕ, ◌+◌, ◌≤◌, cond, List, [], ◌∷◌, ◌++◌, length, Some, None, Option, nat_lt}
 use Rattle.syntax.specs.declared.tables.Datatype.{Datatype}
 use Rattle.syntax.specs.declared.tables.Callable.{Callable}
 use Rattle.syntax.specs.declared.tables.Signature.{Signature}
@@ -68,7 +68,7 @@ of_tables sig start = of_types sig.types.now ++ (of_functions sig.functions.now 
 
 -- the places of the records are places of a problem's bytes
 pub record Low (sig : Signature) (start : ℕ) : Type 0 where
-  pub of_types : (k : ℕ) (d : Datatype) → k < length sig.types.now → (slice_index_or sig.types.now k d).at ≤ 16384
-  pub of_functions : (k : ℕ) (f : Callable) → k < length sig.functions.now → (slice_index_or sig.functions.now k f).at ≤ 16384
+  pub of_types : All (λ d. d.at ≤ 16384) sig.types.now
+  pub of_functions : All (λ f. f.at ≤ 16384) sig.functions.now
   pub of_unknowns : start ≤ 16384
   pub few : length sig.unknowns.now ≤ 16

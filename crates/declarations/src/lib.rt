@@ -1,7 +1,8 @@
 // Looks for type numbers outside terms that name no type.
 #![tactic(auto)]
 
-ghost use Rattle.std.specs.Prelude.{◌≡◌, ℕ, ◌+◌, ◌*◌, ◌^◌, ◌<◌, ◌≤◌, map, length, position, nat_le, slice_index_or};
+ghost use Rattle.std.specs.Prelude.{◌≡◌, ◌+◌, ◌*◌, ◌^◌, ◌<◌, ◌≤◌, map, length, position, nat_le};
+ghost use Rattle.std.specs.List.{All};
 ghost use Rattle.syntax.specs.Tables.{listed};
 ghost use Rattle.declarations.specs.Numbers.{in_list, in_cases, in_profile, in_unknowns, first_from, of_types, of_functions, of_tables, Low};
 ghost use Rattle.declarations.specs.Laws.{UndeclaredIsExact};
@@ -40,7 +41,7 @@ fn in_cases(cases: &[TypeList], known: usize, place: usize) -> Option<usize>
 }
 
 fn in_types(types: &[Datatype], known: usize) -> Option<usize>
-    requires { (k : ℕ) (d : Datatype) → k < length types.now → (slice_index_or types.now k d).at ≤ 16384 }
+    requires { All (λ d. d.at ≤ 16384) types.now }
     ensures { result ≡ first_from known (of_types types.now) }
 {
     types.iter().find_map(|datatype| in_cases(datatype.cases(), known, datatype.at + 3))
@@ -57,7 +58,7 @@ fn in_callable(function: &Callable, known: usize) -> Option<usize>
 }
 
 fn in_functions(functions: &[Callable], known: usize) -> Option<usize>
-    requires { (k : ℕ) (f : Callable) → k < length functions.now → (slice_index_or functions.now k f).at ≤ 16384 }
+    requires { All (λ f. f.at ≤ 16384) functions.now }
     ensures { result ≡ first_from known (of_functions functions.now) }
 {
     functions

@@ -3,7 +3,8 @@ ghost use Rattle.std.specs.Prelude.{◌≡◌, ℕ, ◌+◌, length};
 ghost use Rattle.syntax.specs.Tables.{declared_in};
 ghost use Rattle.depths.specs.Least.{Leasts, FirstWithout, FirstUnknown, Known};
 
-use crate::needs::{UNKNOWN, easiest};
+use crate::needs::easiest;
+use syntax::limits::NO_VALUE;
 use syntax::tables::Signature;
 
 // Accounts for the values that are deeper by one.
@@ -21,7 +22,7 @@ fn round(sig: Signature, least: &mut [u8])
 fn first_unknown(least: &[u8]) -> Option<usize>
     ensures { FirstUnknown least.now result }
 {
-    least.iter().position(|depth| *depth >= UNKNOWN)
+    least.iter().position(|depth| *depth >= NO_VALUE)
 }
 
 // Writes the least depth of each type, or 9 where no value is at most 8 deep; the first type without such a value.
@@ -30,8 +31,8 @@ pub fn least_depths(sig: Signature, least: &mut [u8]) -> Option<usize>
     ensures each { Leasts (declared_in sig.entry) least.new }
     ensures first { FirstWithout (declared_in sig.entry) result }
 {
-    least.fill(UNKNOWN);
-    for _depth in 1..UNKNOWN {
+    least.fill(NO_VALUE);
+    for _depth in 1..NO_VALUE {
         round(sig, least);
     }
     first_unknown(least)

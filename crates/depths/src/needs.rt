@@ -6,12 +6,10 @@ ghost use Rattle.depths.specs.Needs.{depth_at, need_by, need_in, Easiest, Filled
 ghost use Rattle.depths.specs.Least.{Leasts};
 
 use std::array;
-use syntax::limits::MOST_CONSTRUCTORS;
+use syntax::limits::{MOST_CONSTRUCTORS, NO_VALUE};
 use syntax::tables::{Datatype, Signature, TypeList};
 
-// Stands in a table for a type of which no value is known.
-// Kept as it is: a number and no Option, since the table is memory that the caller lends, and the format's promises say 9.
-pub(crate) const UNKNOWN: u8 = 9;
+// Kept as it is: `NO_VALUE` is a number and no Option, since the table is memory that the caller lends, and the format's promises say 9.
 
 // Kept as it is: `sig` and `least` go side by side, since the one is read and the other filled, and where both are read two
 // references are as short as a struct of them.
@@ -22,7 +20,7 @@ fn depth_at(least: &[u8], t: u8) -> u8
 {
     least
         .get(usize::from(t))
-        .map_or(UNKNOWN, |depth| (*depth).min(UNKNOWN))
+        .map_or(NO_VALUE, |depth| (*depth).min(NO_VALUE))
 }
 
 // The greatest least depth among some types.
@@ -49,10 +47,11 @@ pub(crate) fn easiest(least: &[u8], datatype: &Datatype) -> u8
         .cases()
         .iter()
         .map(|case| need_over(least, case.types()))
-        .fold(UNKNOWN, u8::min)
+        .fold(NO_VALUE, u8::min)
 }
 
 // What the constructor `c` of the type `t` needs, right where the table of least depths is.
+// Kept as it is: no crate calls it; it answers for one constructor without the table that `fill_needs` writes.
 pub fn need(sig: Signature, least: &[u8], t: u8, c: u8) -> u8
     ensures by { result ≡ need_by (declared_in sig.entry) least.now t c }
     ensures is { Leasts (declared_in sig.entry) least.now → result ≡ need_of (declared_in sig.entry) t c }

@@ -19,6 +19,7 @@ pub struct Tables {
 
 impl Tables {
     // Copies of the fronts of an examination's tables.
+    // Kept as it is: the fronts are cut here and in `examine`, a range each; the contract of a method that cuts them would be longer.
     pub fn copied(heap: Global, work: &Workspace, counts: Counts) -> Result<Tables, AllocError>
         requires { Counted counts }
         ensures { IfOk result (λ t. Fronts work.now counts t) }

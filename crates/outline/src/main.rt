@@ -32,7 +32,7 @@ fn next_place(p: &Problem, place: usize, view: View) -> usize {
 }
 
 // The terms within the term at a place, itself first. Each stands after the one before, so there are no more than bytes.
-// Kept as it is: a count of rounds; a `while` would want a measure, and the contract of `view` says nothing from which one follows.
+// Kept as it is: a count of rounds; a `while` would want a measure, and `after` says nothing of a place where no term is known to stand.
 fn tell_term(rt: &HostRuntime, p: &Problem, start: usize) -> io::Result<()> {
     let end = p.after(start);
     let mut place = start;

@@ -20,15 +20,6 @@ module _ (sig : Sig) (bytes next : List ℕ) where
   row_from (t t∷ ts) [] h q f = absurd h
   row_from (t t∷ ts) (w ∷ ws) h q f = (f zero (omega arith), row_from ts ws h.2 (hop next q) (λ j lt. f (suc j) (omega arith)))
 
-  -- and each of a row stands so many terms after the first
-  pub row_at : (ts : Terms) (ws : List Want) (q : ℕ) → Row sig bytes next q ws ts → (j : ℕ) → j < length ws
-      → StandsAt sig bytes (hops next j q) (get_or ws j (want [] 0)) (nth ts j)
-  row_at t[] [] q r j lt = absurd (omega arith)
-  row_at t[] (w ∷ ws) q r j lt = absurd r
-  row_at (t t∷ ts) [] q r j lt = absurd r
-  row_at (t t∷ ts) (w ∷ ws) q r zero lt = r.0
-  row_at (t t∷ ts) (w ∷ ws) q r (suc j) lt = row_at ts ws (hop next q) r.1 j (omega arith)
-
   read : (p k : ℕ) (xs : List ℕ) → drop p bytes ≡ xs → get_or bytes (p + k) 0 ≡ get_or xs k 0
   read p k xs e = sym (get_or-drop p bytes k 0) ∙ ap (λ ys. get_or ys k 0) e
 

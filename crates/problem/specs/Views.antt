@@ -1,5 +1,5 @@
 -- What a view shows of the term that stands at its place. Assumes nothing.
-use Rattle.std.specs.Prelude.{◌≡◌, ℕ, ◌+◌, ◌<◌, cond, List, [], ◌∷◌, length, nat_lt, slice_index}
+use Rattle.std.specs.Prelude.{◌≡◌, ℕ, ◌+◌, ◌<◌, ◌≤◌, cond, List, [], ◌∷◌, length, nat_lt, slice_index}
 use Rattle.syntax.specs.Terms.{Term, Terms, var, unknown, con, call, case, both, not, equal, t[], ◌t∷◌}
 use Rattle.syntax.specs.Typing.{Sig, Want, want, each_of, branches_of, Declared, constructors, arguments, params_of, result_of, cases_of, Stands}
 use Rattle.reading.specs.declared.parts.Tag.{Tag}
@@ -100,6 +100,18 @@ Shows sig bytes next w t (And l r) = IsAnd sig bytes w t l r
 Shows sig bytes next w t (Not q) = IsNot sig bytes w t q
 Shows sig bytes next w t (Equal l r) = IsEqual sig bytes w t l r
 Shows sig bytes next w t Nothing = ⊥
+
+-- what stands one after another in a view is at most six terms
+abbrev pub FewParts : View → Type 0
+FewParts (Variable v) = Unit {0}
+FewParts (Unknown k) = Unit {0}
+FewParts (Constructor ty c arity q) = arity ≤ 6
+FewParts (Call f arity q) = arity ≤ 6
+FewParts (Case ty q) = Unit {0}
+FewParts (And l r) = Unit {0}
+FewParts (Not q) = Unit {0}
+FewParts (Equal l r) = Unit {0}
+FewParts Nothing = Unit {0}
 
 -- a view shows every term that stands at its place
 abbrev pub AlwaysShows : Sig → List ℕ → List ℕ → ℕ → View → Type 0

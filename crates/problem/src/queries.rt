@@ -1,5 +1,5 @@
 // What a problem says, each question answered from the tables for every number that can be asked.
-ghost use Rattle.std.specs.Prelude.{◌≡◌, ◌+◌, ◌<◌, length, slice_index, slice_index_or};
+ghost use Rattle.std.specs.Prelude.{◌≡◌, ◌+◌, ◌<◌, ◌≤◌, length, slice_index, slice_index_or};
 ghost use Rattle.syntax.specs.Typing.{constructors as constructors_of, arguments as arguments_of, params_of, result_of};
 ghost use Rattle.syntax.specs.Tables.{declared_in};
 ghost use Rattle.syntax.specs.Least.{least_of, need_of};
@@ -7,18 +7,17 @@ ghost use Rattle.ends.specs.Ends.{hop, hops};
 ghost use Rattle.verdict.specs.Exact.{Encodes};
 ghost use Rattle.kept.specs.Layout.{body_places, goal_places};
 ghost use Rattle.problem.specs.Meant.{held, meant, sig, ends, BodyStands, GoalStands, ComesAfter};
-ghost use Rattle.problem.specs.Views.{view_by, view_at, AlwaysShows};
+ghost use Rattle.problem.specs.Views.{view_by, view_at, AlwaysShows, FewParts};
 
 use crate::problem::Problem;
 use crate::view::View;
 use ends::ends::past;
 use reading::parts::Tag;
+use syntax::limits::NO_VALUE;
 use syntax::tables::Signature;
 
-// The least depth that stands for a type without a value no deeper than 8.
 // Kept as it is: where a number names nothing, the answer is a number or a place too (9, 1, 0, the end of the bytes, the place that
 // was asked about): the abstract problem answers every number so, and the judge goes on from these answers without a test.
-const NO_VALUE: u8 = 9;
 
 impl Problem {
     // The tables as declarations.
@@ -52,7 +51,8 @@ impl Problem {
 
     // The types of a constructor's arguments.
     pub fn arguments(&self, t: u8, c: u8) -> &[u8]
-        ensures { result.now ≡ arguments_of (sig self.now) t c }
+        ensures is { result.now ≡ arguments_of (sig self.now) t c }
+        ensures few { length result.now ≤ 6 }
     {
         self.declared().arguments(t, c)
     }
@@ -69,6 +69,7 @@ impl Problem {
     pub fn need(&self, t: u8, c: u8) -> u8
         ensures { result ≡ need_of (sig self.now) t c }
     {
+        // Kept as it is: tried by two calls of `get`, as the queries beside it go; the proof was not found.
         if c >= self.constructors(t) {
             return 1;
         }
@@ -85,7 +86,8 @@ impl Problem {
 
     // The types of a function's parameters.
     pub fn params(&self, f: u8) -> &[u8]
-        ensures { result.now ≡ params_of (sig self.now) f }
+        ensures is { result.now ≡ params_of (sig self.now) f }
+        ensures few { length result.now ≤ 6 }
     {
         self.declared().params(f)
     }
@@ -109,7 +111,8 @@ impl Problem {
 
     // The types of the unknowns.
     pub fn unknowns(&self) -> &[u8]
-        ensures { result.now ≡ (meant self.now).unknowns }
+        ensures is { result.now ≡ (meant self.now).unknowns }
+        ensures few { length result.now ≤ 16 }
     {
         self.tables.unknowns.as_slice()
     }
@@ -157,7 +160,8 @@ impl Problem {
     // The head of a term at a place, by its tag.
     fn view_by(&self, place: usize, tag: Tag) -> View
         requires { place < length (held self.now) }
-        ensures { result ≡ view_by (sig self.now) (ends self.now) place tag (slice_index (held self.now) (place + 1)) (slice_index (held self.now) (place + 2)) }
+        ensures is { result ≡ view_by (sig self.now) (ends self.now) place tag (slice_index (held self.now) (place + 1)) (slice_index (held self.now) (place + 2)) }
+        ensures few { FewParts result }
     {
         let a = self.byte(place + 1);
         match tag {
@@ -198,6 +202,7 @@ impl Problem {
     pub fn view(&self, place: usize) -> View
         ensures is { result ≡ view_at (sig self.now) (held self.now) (ends self.now) place }
         ensures shows { AlwaysShows (sig self.now) (held self.now) (ends self.now) place result }
+        ensures few { FewParts result }
     {
         match self.bytes.get(place) {
             Some(tag) => self.view_by(place, Tag::from(*tag)),

@@ -61,9 +61,6 @@ module _ {m n i : ℕ} {all : List ℕ} {start : ℕ} {rest : List ℕ} {p : ℕ
             ∙ led_push l.xs x (lists_of m (n - (i + 1)) more q);
       }
 
-  pub listed_refused : {f : Fault} → list_of m rest p ≡ Err f → lists_of m n all start ≡ Err f
-  listed_refused e = l.leads ∙ ap (led l.xs) (to_come ∙ ap (λ d. and_then d (λ r. preceded r.value (lists_of m (n - (i + 1)) r.rest r.at))) e)
-
 -- lists that were written are read back
 pub lists_written : (xs : List (List ℕ)) → lists_in (length xs) (concat encode_list xs) ≡ xs
 lists_written [] = refl

@@ -10,7 +10,10 @@ use crate::reader::Reader;
 use syntax::faults::{Fault, Reason};
 use syntax::limits::MOST_ARGUMENTS;
 
-// Kept as it is: the mark goes with each call, since a reader lasts for many records and a part stands in one.
+// Kept as it is: the mark goes with each call, since a reader lasts for many records and a part stands in one. (A reader of a
+// model's bytes has one mark for all that it reads, and holds it.)
+// Kept as it is: a call of several parts works on a copy and commits once, here and in `read`, since each promises that a refusal
+// leaves the reader as it was.
 
 impl<'a> Reader<'a> {
     // Are the next two bytes this mark?

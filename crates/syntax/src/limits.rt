@@ -20,3 +20,9 @@ pub const MOST_CONSTRUCTORS: usize = 16;
 
 // The types in a list of arguments or parameters.
 pub const MOST_ARGUMENTS: usize = 6;
+
+// The variables in scope of a term.
+pub const MOST_VARIABLES: usize = 64;
+
+// Stands for the least depth of a type without a value no deeper than 8.
+pub const NO_VALUE: u8 = 9;

@@ -7,8 +7,8 @@ ghost use Rattle.syntax.specs.Tables.{listed, cases_in, declared_in};
 use crate::limits::{MOST_ARGUMENTS, MOST_CONSTRUCTORS};
 
 // At most six types: the arguments of a constructor, or the parameters of a function.
-// Kept as it is: an array with a count beside it, here and in `Datatype`: a check of bytes has no heap, and its tables are
-// filled with one blank value, which has to be `Copy`.
+// Kept as it is: an array with a count beside it, here and in `Datatype`: the tables of a check are constants that repeat one
+// blank value, which has to be `Copy` and made without a call, as a vector of fixed room (`arrayvec`) is not.
 #[derive(Clone, Copy)]
 pub struct TypeList {
     pub count: u8,
@@ -125,10 +125,7 @@ impl<'a> Signature<'a> {
         ensures is { map listed result.now ≡ cases_of (declared_in self.entry) t }
         ensures few { length result.now ≤ 16 }
     {
-        match self.types.get(t) {
-            Some(datatype) => datatype.cases(),
-            None => &[],
-        }
+        self.types.get(t).map_or(&[], |datatype| datatype.cases())
     }
 
     // How many constructors a type has.
@@ -143,10 +140,8 @@ impl<'a> Signature<'a> {
         ensures is { result.now ≡ arguments (declared_in self.entry) t c }
         ensures few { length result.now ≤ 6 }
     {
-        match self.cases(usize::from(t)).get(usize::from(c)) {
-            Some(list) => list.types(),
-            None => &[],
-        }
+        let case = self.cases(usize::from(t)).get(usize::from(c));
+        case.map_or(&[], |list| list.types())
     }
 
     // The parameter types of a function.
@@ -154,10 +149,8 @@ impl<'a> Signature<'a> {
         ensures is { result.now ≡ params_of (declared_in self.entry) f }
         ensures few { length result.now ≤ 6 }
     {
-        match self.functions.get(usize::from(f)) {
-            Some(function) => function.params.types(),
-            None => &[],
-        }
+        let function = self.functions.get(usize::from(f));
+        function.map_or(&[], |function| function.params.types())
     }
 
     // Is f a function whose result has the type ty?

@@ -12,7 +12,8 @@ use syntax::limits::{MOST_BYTES, MOST_FUNCTIONS, MOST_GOALS, MOST_TYPES, MOST_UN
 use syntax::tables::{Callable, Datatype, Span};
 
 // Room for all that a problem may declare; how much of each table is filled is in `Counts`.
-// Kept as it is: arrays with counts beside them, since a check of bytes has no heap.
+// Kept as it is: arrays with counts beside them, since they are a constant of blank values, which a vector of fixed room (`arrayvec`)
+// cannot be.
 #[derive(Clone, Copy)]
 pub struct WorkTables {
     pub types: [Datatype; MOST_TYPES],

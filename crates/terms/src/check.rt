@@ -9,6 +9,7 @@ use crate::context::Context;
 use crate::tasks::{NoTerm, Opened, Stack, Task, Wanted};
 use std::marker::Model;
 use syntax::faults::{Fault, Reason};
+use syntax::limits::MOST_VARIABLES;
 use syntax::tables::Signature;
 
 // Checks terms of a problem, one after another.
@@ -42,6 +43,7 @@ fn advance<const N: usize>(
     let Opened { first, rest } = context.open(task)?;
     let then = context.read(first, b)?;
     tasks.put(rest);
+    // Kept as it is: tried as `then.or_else(|| tasks.pop())`, whose closure holds the stack: what is left of it was not found.
     match then {
         Some(task) => Ok(Some(task)),
         None => Ok(tasks.pop()),
@@ -55,12 +57,13 @@ impl<'a> Checker<'a> {
         Checker {
             context: Context {
                 sig,
-                scope: [0; 64],
+                scope: [0; MOST_VARIABLES],
             },
         }
     }
 
     // The check, byte by byte.
+    // Kept as it is: apart from `check_term`, since what that says besides follows from `exact` alone, whichever way the loop ends.
     fn run<const N: usize>(
         &mut self,
         tasks: &mut Stack<N>,

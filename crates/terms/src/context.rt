@@ -9,6 +9,7 @@ ghost use Rattle.terms.specs.Tasks.{cut_of, item_of, whole, Left, Binds, Opens, 
 
 use crate::tasks::{NoTerm, Opened, Task, Wanted};
 use reading::parts::{Part, Tag};
+use syntax::limits::MOST_VARIABLES;
 use syntax::tables::Signature;
 
 // The declarations, and the types of the variables.
@@ -18,7 +19,7 @@ use syntax::tables::Signature;
 #[derive(Drop)]
 pub struct Context<'a> {
     pub sig: Signature<'a>,
-    pub scope: [u8; 64],
+    pub scope: [u8; MOST_VARIABLES],
 }
 
 // The first of a list's terms from `next` on, and the rest of them where there are more.
@@ -50,7 +51,7 @@ impl<'a> Context<'a> {
         ensures is { MatchResult result (λ k. Binds self.old.scope self.new.scope cut types.now k) (λ _. 64 < cut + length types.now) }
     {
         let start = usize::from(cut);
-        if types.len() > 64 - start {
+        if types.len() > MOST_VARIABLES - start {
             return Err(NoTerm);
         }
         let end = start + types.len();

@@ -166,10 +166,7 @@ module _ (bs : List ℕ) (raw : Raw) (functions : List Callable) (goals : List S
   pub terms_accepted : Ok tt ≡ fault_of (terms_by S bs functions goals) → (p : Problem) × (terms_in raw ≡ Ok p)
   terms_accepted e = let p = terms_fine raw (bodies_by S bs functions) (goals_by S bs goals) e in (p.0, sym located ∙ p.1)
 
--- each way to the verdict
-pub by_records : (bs : List ℕ) (f : Fault) → records bs ≡ Err f → verdict bs ≡ Err f
-by_records bs f e = ap (λ x. and_then x (λ r. and_then (types_in r) (λ _. terms_in r))) e
-
+-- the other ways to the verdict
 pub by_types : (bs : List ℕ) (raw : Raw) (f : Fault) → records bs ≡ Ok raw → Err f ≡ types_in raw → verdict bs ≡ Err f
 by_types bs raw f e t = then_ok (λ r. and_then (types_in r) (λ _. terms_in r)) e ∙ ap (λ x. and_then x (λ _. terms_in raw)) (sym t)
 
