@@ -5,7 +5,6 @@
 ghost use Rattle.std.specs.Prelude.{◌≡◌, ℕ, ◌+◌, ◌≤◌, Bool, true, List, ◌∷◌, length};
 ghost use Rattle.chooser.specs.Ways.{allotted};
 ghost use Rattle.rows.specs.Rows.{inside};
-ghost use Rattle.rows.specs.declared.store.TheConstants.{MOST_VARIABLES};
 ghost use Rattle.backtrack.specs.Solved.{allowed, Solved};
 ghost use Rattle.backtrack.specs.Values.{opens};
 ghost use Rattle.backtrack.specs.Trail.{Trail};
@@ -45,14 +44,14 @@ pub(crate) enum Pass {
 
 // Looks at a clause, and puts its literal on the trail where it leaves one alone. `open` is the first literal that a clause left
 // open. It is written to in place, since as a result it would be tested once more for each clause.
-fn visit(
+fn visit<const N: usize>(
     clause: &[u16],
     values: &mut [u8],
-    trail: &mut Steps,
+    trail: &mut Steps<N>,
     open: &mut Option<u16>,
 ) -> Result<(), Clash>
     requires named { allotted (length values.old) clause.now ≡ true }
-    requires room { opens values.old + length trail.old.list.items ≤ MOST_VARIABLES }
+    requires room { opens values.old + length trail.old.list.items ≤ N }
     ensures { (X : (ℕ → Bool) → Bool) (left : List (List ℕ)) (start : List Step) → Passing X (clause.now ∷ left) start values.old trail.old.list.items «open».old → Visited X left start values.new trail.new.list.items «open».new result }
 {
     match inspect(clause, values) {
@@ -65,16 +64,16 @@ fn visit(
 }
 
 // Goes over the assumptions, each a clause of one literal, and the clauses once.
-fn sweep(
+fn sweep<const N: usize>(
     row: &[u16],
     assumptions: &[u16],
     values: &mut [u8],
-    trail: &mut Steps,
+    trail: &mut Steps<N>,
 ) -> Result<Pass, Clash>
     requires row { inside (length values.old) 0 row.now ≡ true }
     requires assumptions { allotted (length values.old) assumptions.now ≡ true }
     requires trail { Trail (allowed row.now assumptions.now) values.old trail.old.list.items }
-    requires room { length values.old ≤ MOST_VARIABLES }
+    requires room { length values.old ≤ N }
     ensures { Swept (allowed row.now assumptions.now) trail.old.list.items values.new trail.new.list.items result }
 {
     let from = trail.list.len();
@@ -98,8 +97,13 @@ fn sweep(
 // `trail` is working memory; what it has at first does not count.
 // It is not inlined into its caller, beside whose variables those of its loops would not stay in registers.
 #[inline(never)]
-pub fn solve(row: &[u16], assumptions: &[u16], values: &mut [u8], trail: &mut Steps) -> Answer
-    requires room { length values.old ≤ MOST_VARIABLES }
+pub fn solve<const N: usize>(
+    row: &[u16],
+    assumptions: &[u16],
+    values: &mut [u8],
+    trail: &mut Steps<N>,
+) -> Answer
+    requires room { length values.old ≤ N }
     requires row { inside (length values.old) 0 row.now ≡ true }
     requires assumptions { allotted (length values.old) assumptions.now ≡ true }
     ensures { Solved row.now assumptions.now values.new result }

@@ -1,36 +1,35 @@
 // Steps put on the trail and taken back.
 ghost use Rattle.std.specs.Prelude.{◌≡◌, ℕ, ◌+◌, ◌/◌, ◌<◌, ◌≤◌, Bool, true, [], ◌∷◌, ◌++◌, length, vec_capacity, IfOk, if◌then◌else◌, nat_eq, slice_index, slice_set};
 ghost use Rattle.chooser.specs.Ways.{allotted};
-ghost use Rattle.rows.specs.declared.store.TheConstants.{MOST_VARIABLES};
 ghost use Rattle.backtrack.specs.Values.{bit};
 ghost use Rattle.backtrack.specs.Trail.{lit_of, lits, Trail, Dead, TakenBack};
 
 use super::OPEN;
 use super::trail::Step;
-use rows::{MOST_VARIABLES, is_positive, variable};
+use rows::{is_positive, variable};
 use std::alloc::{AllocError, Global};
 
-// The steps on the trail. Their memory is reserved once: a step for each variable that a chooser can have.
+// The steps on the trail, for at most N variables. Their memory is reserved once.
 #[derive(Drop)]
-pub struct Steps {
+pub struct Steps<const N: usize> {
     pub(crate) list: Vec<Step>,
-    ghost room: { MOST_VARIABLES ≤ vec_capacity list },
+    ghost room: { N ≤ vec_capacity list },
 }
 
-impl Steps {
+impl<const N: usize> Steps<N> {
     // Makes a trail without a step.
-    pub fn new(heap: Global) -> Result<Steps, AllocError>
+    pub fn new(heap: Global) -> Result<Self, AllocError>
         ensures { IfOk result (λ s. s.list.items ≡ []) }
     {
         Ok(Steps {
-            list: Vec::with_capacity(heap, MOST_VARIABLES)?,
+            list: Vec::with_capacity(heap, N)?,
         })
     }
 
     // Puts the step on the trail and makes its literal true.
     pub(crate) fn push(&mut self, values: &mut [u8], step: Step)
         requires value { lit_of step / 2 < length values.old }
-        requires room { length self.old.list.items < MOST_VARIABLES }
+        requires room { length self.old.list.items < N }
         ensures values { values.new ≡ slice_set values.old (lit_of step / 2) (bit (lit_of step)) }
         ensures trail { self.new.list.items ≡ self.old.list.items ++ (step ∷ []) }
     {

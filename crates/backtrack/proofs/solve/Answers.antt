@@ -21,43 +21,44 @@ less_to : (n was : ℕ) (a b : List Step) → b ≡ a → 3 ^ n - load n a < 3 ^
 less_to n was a b e h = subst (λ w. 3 ^ n - load n w < 3 ^ n - was) (sym e) h
 
 pub loop-l-init : goal.loop-l-init
-loop-l-init c =
+loop-l-init g c =
     let out = c.fill.new.self in
     let same : out ≡ replicate (length c.args.values.now) 2 = c.fill.ensures.after (λ y e. e) in
     subst (Trail (allowed c.args.row.now c.args.assumptions.now) out) (sym c.clear.ensures.items)
     (trail_start (allowed c.args.row.now c.args.assumptions.now) out (λ k lt. ap (λ xs. get_or xs k 0) same ∙ get_or-replicate (length c.args.values.now) k 2 0 (omega arith)))
 
 pub loop-l-smaller-in-Ok-Moved : goal.loop-l-smaller-in-Ok-Moved
-loop-l-smaller-in-Ok-Moved c =
+loop-l-smaller-in-Ok-Moved g c =
     let h = c.in-Ok-Moved.ensures in
     let ends = subst (Passed (allowed c.args.row.now c.args.assumptions.now) h.more c.sweep.new.values c.sweep.new.trail.list.items) c.in-Ok-Moved.field-0-is h.ends in
     moved_less (allowed c.args.row.now c.args.assumptions.now) c.loop-l.trail.list.items c.sweep.new.values c.sweep.new.trail.list.items h.more (length c.fill.new.self) (c.sweep.auto.values ∙ c.loop-l.auto.values) h.goes h.grown ends
 
-pub push-requires-clause-room : goal.push-requires-clause-room
-push-requires-clause-room c =
+pub push-requires : goal.push-requires
+push-requires g c =
     let h = c.in-Ok-Open.ensures in
     let ends = subst (Passed (allowed c.args.row.now c.args.assumptions.now) h.more c.sweep.new.values c.sweep.new.trail.list.items) c.in-Ok-Open.field-0-is h.ends in
     let lt = room (allowed c.args.row.now c.args.assumptions.now) c.sweep.new.values c.sweep.new.trail.list.items h.goes c.in-Ok-Open.l ends in
     let size : length c.sweep.new.values ≡ length c.args.values.now = c.sweep.auto.values ∙ c.loop-l.auto.values ∙ c.fill.ensures.len in
     let most = c.requires.room in
-    omega arith
+    let below : c.in-Ok-Open.l / 2 < length c.sweep.new.values = let a = ends.0 in omega arith in
+    (omega arith, (below, omega arith))
 
 pub loop-l-smaller-in-Ok-Open : goal.loop-l-smaller-in-Ok-Open
-loop-l-smaller-in-Ok-Open c =
+loop-l-smaller-in-Ok-Open g c =
     let h = c.in-Ok-Open.ensures in
     let ends = subst (Passed (allowed c.args.row.now c.args.assumptions.now) h.more c.sweep.new.values c.sweep.new.trail.list.items) c.in-Ok-Open.field-0-is h.ends in
     less_to (length c.fill.new.self) _ _ c.push.new.self.list.items c.push.ensures.trail
     (open_less (allowed c.args.row.now c.args.assumptions.now) c.loop-l.trail.list.items c.sweep.new.values c.sweep.new.trail.list.items h.more (length c.fill.new.self) (c.sweep.auto.values ∙ c.loop-l.auto.values) h.goes h.grown c.in-Ok-Open.l ends)
 
 pub loop-l-preserved-in-Ok-Open : goal.loop-l-preserved-in-Ok-Open
-loop-l-preserved-in-Ok-Open c =
+loop-l-preserved-in-Ok-Open g c =
     let h = c.in-Ok-Open.ensures in
     let ends = subst (Passed (allowed c.args.row.now c.args.assumptions.now) h.more c.sweep.new.values c.sweep.new.trail.list.items) c.in-Ok-Open.field-0-is h.ends in
     trail_to _ _ _ _ _ c.push.ensures.values c.push.ensures.trail
     (open_again (allowed c.args.row.now c.args.assumptions.now) c.loop-l.trail.list.items c.sweep.new.values c.sweep.new.trail.list.items h.more (length c.fill.new.self) (c.sweep.auto.values ∙ c.loop-l.auto.values) h.goes h.grown c.in-Ok-Open.l ends)
 
 pub returns-in-Ok-Met : goal.returns-in-Ok-Met
-returns-in-Ok-Met c =
+returns-in-Ok-Met g c =
     let row = c.args.row.now in
     let assumptions = c.args.assumptions.now in
     let values = c.sweep.new.values in
@@ -70,7 +71,7 @@ returns-in-Ok-Met c =
     ends
 
 pub loop-l-smaller : goal.loop-l-smaller
-loop-l-smaller c =
+loop-l-smaller g c =
     let X = allowed c.args.row.now c.args.assumptions.now in
     let h = c.in-Err.ensures in
     let u = c.in-Some.ensures X h.goes h.dead in
@@ -78,7 +79,7 @@ loop-l-smaller c =
     (clash_less X c.loop-l.trail.list.items c.sweep.new.values c.sweep.new.trail.list.items h.more (length c.fill.new.self) (c.sweep.auto.values ∙ c.loop-l.auto.values) h.goes h.grown c.take_back.new.values c.take_back.new.self.list.items c.in-Some.l u (c.take_back.auto.values ∙ c.sweep.auto.values ∙ c.loop-l.auto.values))
 
 pub loop-l-preserved : goal.loop-l-preserved
-loop-l-preserved c =
+loop-l-preserved g c =
     let X = allowed c.args.row.now c.args.assumptions.now in
     let h = c.in-Err.ensures in
     let u = c.in-Some.ensures X h.goes h.dead in

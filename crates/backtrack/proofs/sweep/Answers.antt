@@ -13,13 +13,13 @@ use Rattle.backtrack.proofs.Passes.{pass_start, allowed_clauses, swept_err}
 use Rattle.backtrack.proofs.sweep.Goals as goal
 
 pub loop-l-init : goal.loop-l-init
-loop-l-init c =
+loop-l-init g c =
     let row = c.args.row.now in
     let assumptions = c.args.assumptions.now in
     pass_start (allowed row assumptions) (singles assumptions ++ clauses_of row) c.args.values.now c.args.trail.now.list.items (allowed_clauses row assumptions) c.requires.trail
 
 pub returns-in_err-visit : goal.returns-in_err-visit
-returns-in_err-visit c =
+returns-in_err-visit g c =
     let X = allowed c.args.row.now c.args.assumptions.now in
     let assumptions = c.args.assumptions.now in
     let i = c.loop-l.l-index in
@@ -29,7 +29,7 @@ returns-in_err-visit c =
     swept_err X start c.visit.new.values c.visit.new.trail.list.items c.from_residual.result c.from_residual.ensures.0 (c.in_err-visit.ensures X left start now)
 
 pub loop-clause-init : goal.loop-clause-init
-loop-clause-init c =
+loop-clause-init g c =
     let X = allowed c.args.row.now c.args.assumptions.now in
     let row = c.args.row.now in
     let start = c.args.trail.now.list.items in
@@ -44,7 +44,7 @@ loop-clause-init c =
     )
 
 pub returns-in_err-visit-2 : goal.returns-in_err-visit-2
-returns-in_err-visit-2 c =
+returns-in_err-visit-2 g c =
     let X = allowed c.args.row.now c.args.assumptions.now in
     let start = c.args.trail.now.list.items in
     let left = clauses_left c.next.new.self in
@@ -52,7 +52,7 @@ returns-in_err-visit-2 c =
     swept_err X start c.visit-in-loop-clause.new.values c.visit-in-loop-clause.new.trail.list.items c.from_residual-in_err-visit-2.result c.from_residual-in_err-visit-2.ensures.0 (c.in_err-visit-2.ensures X left start now)
 
 pub loop-clause-preserved : goal.loop-clause-preserved
-loop-clause-preserved c =
+loop-clause-preserved g c =
     let X = allowed c.args.row.now c.args.assumptions.now in
     let start = c.args.trail.now.list.items in
     let left = clauses_left c.next.new.self in
