@@ -1,8 +1,8 @@
 -- Clauses of allotted literals are refused only for want of entries. Assumes nothing.
 use Rattle.std.proofs.Common.{◌≡◌, ℕ, ◌+◌, ◌*◌, ◌<◌, ◌≤◌, Bool, true, false, ◌&&◌, ltb, ◌⊎◌, List, [], ◌∷◌, ◌++◌, length, refl, ap, ◌∙◌, inl, inr, arith}
-use Rattle.std.proofs.lemmas.Bool.{and_parts, and_from, cases_lt, lt-ltb, ltb-true, le-leb, cond-true}
+use Rattle.std.proofs.lemmas.Bool.{and_parts, and_from, cases_lt, lt-ltb, ltb-true, le-leb, lt-leb, cond-true, cond-false}
 use Rattle.chooser.specs.Ways.{every, allotted}
-use Rattle.chooser.specs.Meaning.{Meaning, Same}
+use Rattle.chooser.specs.Meaning.{Meaning}
 use Rattle.chooser.specs.Steps.{add_refusal}
 use Rattle.chooser.specs.Faults.{fault_number}
 use Rattle.chooser.specs.declared.Fault.{Fault}
@@ -36,17 +36,14 @@ no_fault Unallotted h = omega (arith, h)
 no_fault NoEntries h = omega (arith, h)
 no_fault WrongLength h = omega (arith, h)
 
-pub same_meaning : (M : Meaning) → Same M M
-same_meaning M = record { counts = refl; rooms = refl; leaves = refl; allows = λ p. refl }
-
 pub not_refused : (M : Meaning) (ls : List ℕ) (e : Fault) → fault_number e ≡ add_refusal M ls → allotted M.count ls ≡ true
     → length ls + 1 ≤ M.left → ⊥
 not_refused M ls e n named fits = no_fault e (n ∙ cond-true _ _ _ named ∙ cond-true _ _ _ (le-leb (length ls + 1) M.left fits))
 
 pub too_few : (M : Meaning) (ls : List ℕ) (e : Fault) → fault_number e ≡ add_refusal M ls → allotted M.count ls ≡ true
-    → M.left < length ls + 1
+    → (M.left < length ls + 1) × (fault_number e ≡ fault_number NoEntries)
 too_few M ls e n named = go (cases_lt M.left (length ls + 1))
   where
-    go : (M.left < length ls + 1) ⊎ (length ls + 1 ≤ M.left) → M.left < length ls + 1
-    go (inl l) = l
+    go : (M.left < length ls + 1) ⊎ (length ls + 1 ≤ M.left) → (M.left < length ls + 1) × (fault_number e ≡ fault_number NoEntries)
+    go (inl l) = (l, n ∙ cond-true _ _ _ named ∙ cond-false _ _ _ (lt-leb (length ls + 1) M.left l))
     go (inr l) = absurd (not_refused M ls e n named l)

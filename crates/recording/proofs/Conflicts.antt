@@ -32,19 +32,14 @@ module _ (t : Code) (cases : List (Option Case)) (marks : ℕ → Bool) (goal : 
     pub within : len ≤ length memory
     pub is : take len memory ≡ off goal ∷ literals_below t cases marks at
 
-  pub written_on : (at len n : ℕ) (memory memory' : List ℕ) → Written at memory len → n ≤ length memory'
-      → take n memory' ≡ take len memory ++ literal_at t cases marks at → Written (at + 1) memory' n
-  written_on at len n memory memory' w l e =
-      record {
-        within = l;
-        is =
-            e ∙ ap (λ ls. ls ++ literal_at t cases marks at) w.is
-            ∙ ap (λ k. off goal ∷ literals_below t cases marks k) (sym (add-one at));
-      }
-
   pub written_past : (at len : ℕ) (memory : List ℕ) → Written at memory len → literal_at t cases marks at ≡ [] → Written (at + 1) memory len
   written_past at len memory w e =
-      written_on at len len memory memory w w.within (sym (ap (λ ls. take len memory ++ ls) e ∙ append-nil (take len memory)))
+      let before = literals_below t cases marks at in
+      let same : before ++ literal_at t cases marks at ≡ before = ap (λ ls. before ++ ls) e ∙ append-nil before in
+      record {
+        within = w.within;
+        is = w.is ∙ ap (λ ls. off goal ∷ ls) (sym same) ∙ ap (λ k. off goal ∷ literals_below t cases marks k) (sym (add-one at));
+      }
 
   -- the row at a place, and what it has of the clause
   row_read : (at : ℕ) → at < t.len → get_or (take t.len t.rows) at blank ≡ row t at
@@ -234,4 +229,4 @@ fits p t T count w cases marks s d goal room l small roomy =
 pub recorded : {U : Type 0} (M M' : Meaning) (clause : List ℕ) (r : Result U Fault) → allotted M.count clause ≡ true → Add M M' clause r
     → Recorded M M' clause r
 recorded M M' clause (Ok u) named a = (a.fits, extending.by_clause M M' clause a)
-recorded M M' clause (Err e) named a = (too_few M clause e a.1 named, a.0)
+recorded M M' clause (Err e) named a = let q = too_few M clause e a.1 named in (q.0, a.0, q.1)

@@ -1,36 +1,15 @@
--- What the calls of an opening add up to, and why none of them is refused. Assumes nothing.
-use Rattle.std.proofs.Common.{◌≡◌, ℕ, zero, suc, ◌+◌, ◌*◌, ◌<◌, ◌≤◌, true, ◌⊎◌, List, [], ◌∷◌, ◌++◌, length, sym, refl, ap, ◌∙◌, subst, inl, inr, add-one, arith, length-append}
+-- No call of an opening is refused, and the clauses of the pairs add up. Assumes nothing.
+use Rattle.std.proofs.Common.{◌≡◌, ℕ, zero, suc, ◌+◌, ◌*◌, ◌<◌, ◌≤◌, true, ◌⊎◌, List, [], ◌∷◌, length, sym, refl, ap, ◌∙◌, subst, inl, inr, add-one, arith}
 use Rattle.std.proofs.lemmas.Bool.{and_from, cases_lt}
 use Rattle.chooser.specs.Ways.{allotted}
 use Rattle.chooser.specs.Meaning.{Meaning}
-use Rattle.chooser.specs.Steps.{Grown, Added, add_refusal}
+use Rattle.chooser.specs.Steps.{Added, add_refusal}
 use Rattle.chooser.specs.Faults.{fault_number}
 use Rattle.chooser.specs.declared.Fault.{Fault}
 use Rattle.finder.specs.Clauses.{on, off, some_case, not_with, not_two, entries, opening_entries, Extended}
 use Rattle.finder.proofs.Clauses.{entries_join, opening_takes}
 use Rattle.finder.proofs.Extended.{extending}
-use Rattle.recording.specs.Opening.{Named}
-use Rattle.recording.proofs.Clauses.{every_join, allotted_one, allotted_cons, same_meaning, not_refused}
-
--- the variables, one after another
-pub nothing_yet : (M : Meaning) → Extended M M 0 []
-nothing_yet M = extending.by_asking M M (same_meaning M)
-
-pub none_named : (M : Meaning) → Named M M 0 []
-none_named M = record { extends = nothing_yet M; are = refl; long = refl }
-
-pub one_more_named : (M M₁ M₂ : Meaning) (m v : ℕ) (ls : List ℕ) → Named M M₁ m ls → Grown M₁ M₂ v → Named M M₂ (m + 1) (ls ++ ((2 * v) ∷ []))
-one_more_named M M₁ M₂ m v ls n g =
-    let is : v ≡ M.count + m = g.names ∙ n.extends.counts in
-    let joined = length-append ls ((2 * v) ∷ []) in
-    let long = n.long in
-    record {
-      extends = extending.one_by_one M M₁ M₂ m 1 [] [] n.extends (extending.by_variable M₁ M₂ v g);
-      are =
-          (λ i. n.are i ++ (on (is i) ∷ []))
-          ∙ sym (ap (some_case M.count) (add-one m));
-      long = omega (arith, joined, long);
-    }
+use Rattle.recording.proofs.Clauses.{every_join, allotted_one, allotted_cons, not_refused}
 
 -- the clause that one of the cases holds
 pub cases_allotted : (v a m : ℕ) → a + m ≤ v → allotted v (some_case a m) ≡ true

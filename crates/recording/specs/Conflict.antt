@@ -2,7 +2,9 @@
 use Rattle.std.specs.Prelude.{◌≡◌, ℕ, zero, suc, ◌+◌, ◌<◌, ◌≤◌, Bool, true, cond, List, [], ◌∷◌, ◌++◌, length, take, Some, None, Ok, Err, Option, Result, slice_index_or}
 use Rattle.chooser.specs.Ways.{allotted}
 use Rattle.chooser.specs.Meaning.{Meaning, Same}
+use Rattle.chooser.specs.Faults.{fault_number}
 use Rattle.chooser.specs.declared.Fault.{Fault}
+use Rattle.chooser.specs.declared.Fault.TheVariants.{NoEntries}
 use Rattle.syntax.specs.Problems.{Problem}
 use Rattle.held.specs.Explanations.{contains}
 use Rattle.finder.specs.Tables.{Table}
@@ -43,7 +45,7 @@ Writes clause old new (Some n) = (n ≤ length new) × (take n new ≡ clause)
 -- The clause is added, or too few entries are left for it and nothing changes.
 abbrev pub Recorded : {U : Type 0} → Meaning → Meaning → List ℕ → Result U Fault → Type 0
 Recorded M M' clause (Ok u) = (length clause + 1 ≤ M.left) × Extended M M' 0 (clause ∷ [])
-Recorded M M' clause (Err e) = (M.left < length clause + 1) × Same M M'
+Recorded M M' clause (Err e) = (M.left < length clause + 1) × Same M M' × (fault_number e ≡ fault_number NoEntries)
 
 -- So it is for the clause of the conflict in each table that the code's table stands for, and each way that gives its unknowns
 -- the cases, where memory has room for as many literals as there are variables.

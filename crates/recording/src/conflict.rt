@@ -1,5 +1,6 @@
 // The record of a conflict: the clause that its goal's switch is off, or one of the cases that explain it differs.
-ghost use Rattle.std.specs.Prelude.{◌≡◌, ◌+◌, ◌≤◌, length, MatchOption};
+ghost use Rattle.std.specs.Prelude.{◌≡◌, ◌+◌, ◌≤◌, length, MatchOption, OnErr};
+ghost use Rattle.chooser.specs.Meaning.{Same};
 ghost use Rattle.finder.specs.Clauses.{off as says-off};
 ghost use Rattle.held.specs.Explanations.{contains};
 ghost use Rattle.recording.specs.Conflict.{Appends, Writes, clause_of, Records};
@@ -54,8 +55,8 @@ fn write_clause(
     Some(len)
 }
 
-// Writes the clause of the conflict into the memory that is lent, and adds it. Refused with 63 when too few entries are left.
-// (So is a table that stands for none, where the clause has no room or a variable has no literal.)
+// Writes the clause of the conflict into the memory that is lent, and adds it. Refused, with the chooser unchanged, with 63
+// when too few entries are left. (So is a table that stands for none, where the clause has no room or a case no literal.)
 pub fn record<C: Chooser>(
     chooser: &mut C,
     table: &Table,
@@ -64,7 +65,8 @@ pub fn record<C: Chooser>(
     goal: u8,
     literals: &mut [u16],
 ) -> Result<(), Fault>
-    ensures { Records (C.Chooser.meaning chooser.old) (C.Chooser.meaning chooser.new) table.now cases.now because.now.words goal (length literals.old) result }
+    ensures records { Records (C.Chooser.meaning chooser.old) (C.Chooser.meaning chooser.new) table.now cases.now because.now.words goal (length literals.old) result }
+    ensures refused { OnErr result (Same (C.Chooser.meaning chooser.old) (C.Chooser.meaning chooser.new)) }
 {
     let Some(len) = write_clause(table, cases, because, goal, literals) else {
         return Err(Fault::NoEntries);

@@ -6,7 +6,8 @@ ghost use Rattle.recording.specs.Opening.{Allots, Named};
 use arrayvec::ArrayVec;
 use chooser::{Chooser, Fault};
 
-// The entries that an opening needs: of the clause that one case holds, and of three for each two cases.
+// The entries that an opening needs: one more than it has cases for the clause that one of them holds, and three for each
+// two of them, which are not to hold together.
 pub fn opening_needs(cases: u8) -> usize
     ensures { result ≡ opening_entries cases }
 {
@@ -14,7 +15,7 @@ pub fn opening_needs(cases: u8) -> usize
     (cases + 1) + 3 * (cases * cases.saturating_sub(1)) / 2
 }
 
-// Allots a variable for each case, and returns the literals that say that they are 1.
+// Allots a variable for each case, and returns the literals that say that they are 1, at most as many as a `u8` counts.
 fn allot_each<C: Chooser>(chooser: &mut C, cases: u8) -> Result<ArrayVec<u16, 255>, Fault>
     requires { cases ≤ (C.Chooser.meaning chooser.old).room }
     ensures { MatchResult result (λ v. Named (C.Chooser.meaning chooser.old) (C.Chooser.meaning chooser.new) cases v.items) (λ e. ⊥) }
@@ -28,7 +29,7 @@ fn allot_each<C: Chooser>(chooser: &mut C, cases: u8) -> Result<ArrayVec<u16, 25
 }
 
 // Adds for each two of the cases, whose variables are from `first` on, that not both hold.
-fn part_cases<C: Chooser>(chooser: &mut C, first: u16, cases: u8) -> Result<(), Fault>
+fn add_pairs<C: Chooser>(chooser: &mut C, first: u16, cases: u8) -> Result<(), Fault>
     requires named { first + cases ≤ (C.Chooser.meaning chooser.old).count }
     requires fits { entries (not_two first cases) ≤ (C.Chooser.meaning chooser.old).left }
     ensures { MatchResult result (λ u. Extended (C.Chooser.meaning chooser.old) (C.Chooser.meaning chooser.new) 0 (not_two first cases)) (λ e. ⊥) }
@@ -56,6 +57,6 @@ pub fn allot<C: Chooser>(chooser: &mut C, cases: u8) -> Result<u16, Fault>
     let first = C::variables_most() - chooser.variables_left();
     let one_holds = allot_each(chooser, cases)?;
     chooser.add(one_holds.as_slice())?;
-    part_cases(chooser, first, cases)?;
+    add_pairs(chooser, first, cases)?;
     Ok(first)
 }

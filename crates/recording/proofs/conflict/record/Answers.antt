@@ -8,8 +8,8 @@ use Rattle.places.specs.Places.{marked_literals}
 use Rattle.recording.proofs.Conflicts.{fits, clause_is, named, recorded}
 use Rattle.recording.proofs.conflict.record.Goals as goal
 
-pub returns-in_default : goal.returns-in_default
-returns-in_default g c =
+pub returns-in_default-clause-records : goal.returns-in_default-clause-records
+returns-in_default-clause-records g c =
     let M : Meaning = g.C.Chooser.meaning c.args.chooser.now in
     let whole = g.C.Chooser.laws.whole c.args.chooser.now in
     let most = g.C.Chooser.laws.small in
@@ -21,8 +21,8 @@ returns-in_default g c =
           absurd (c.in_default.ensures q.0 q.1);
     }
 
-pub returns : goal.returns
-returns g c =
+pub returns-clause-records : goal.returns-clause-records
+returns-clause-records g c =
     let M : Meaning = g.C.Chooser.meaning c.args.chooser.now in
     let M' : Meaning = g.C.Chooser.meaning c.add.new.self in
     record {

@@ -20,8 +20,8 @@ returns-in_err-add g c =
     let named = ap (allotted M₁.count) (slice ∙ n.are) ∙ cases_allotted M₁.count M.count c.args.cases (omega (arith, counts)) in
     absurd (not_refused M₁ c.as_slice.result.now c.in_err-add.field-0.0 c.in_err-add.ensures.1 named (omega (arith, spends, takes, long)))
 
-pub part_cases-requires-clause-fits : goal.part_cases-requires-clause-fits
-part_cases-requires-clause-fits g c =
+pub add_pairs-requires-clause-fits : goal.add_pairs-requires-clause-fits
+add_pairs-requires-clause-fits g c =
     let M : Meaning = g.C.Chooser.meaning c.args.chooser.now in
     let n = c.in_ok-one_holds.ensures in
     let spends = n.extends.spends in

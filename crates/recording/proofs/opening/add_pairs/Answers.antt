@@ -3,7 +3,7 @@ use Rattle.std.proofs.Common.{◌≡◌, subst, arith}
 use Rattle.chooser.specs.Meaning.{Meaning}
 use Rattle.finder.specs.Clauses.{not_with, Extended}
 use Rattle.recording.proofs.Openings.{pair_refused, one_more_pair, one_more_case}
-use Rattle.recording.proofs.opening.part_cases.Goals as goal
+use Rattle.recording.proofs.opening.add_pairs.Goals as goal
 
 pub returns-in_err-add : goal.returns-in_err-add
 returns-in_err-add g c =
