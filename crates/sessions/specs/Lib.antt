@@ -1,0 +1,4 @@
+pub mod Faults
+pub mod Shown
+pub mod Forcing
+pub mod Beginning
