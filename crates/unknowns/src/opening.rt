@@ -23,11 +23,9 @@ pub fn births(problem: &Problem, ty: u8) -> usize
     ensures is { result ≡ births-of (cases_of (sig_of (meant problem.now)) ty) }
     ensures few { result ≤ 96 }
 {
-    let mut count = 0;
-    for constructor in 0..problem.constructors(ty) {
-        count += problem.arguments(ty, constructor).len();
-    }
-    count
+    (0..problem.constructors(ty))
+        .map(|constructor| problem.arguments(ty, constructor).len())
+        .sum()
 }
 
 impl Table {
