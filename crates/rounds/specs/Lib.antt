@@ -1,0 +1,4 @@
+pub mod Lent
+pub mod Turns
+pub mod Steps
+pub mod Run
