@@ -1,1 +1,4 @@
 pub mod Starts
+pub mod Sought
+pub mod Shallow
+pub mod Searches

@@ -6,13 +6,15 @@ use Rattle.chooser.specs.Meaning.{Meaning, Same}
 use Rattle.chooser.specs.Steps.{new_refusal}
 use Rattle.chooser.specs.Faults.{fault_number}
 use Rattle.chooser.specs.declared.Fault.{Fault}
-use Rattle.chooser.specs.declared.Fault.TheVariants.{NoVariable, Unallotted, NoEntries, WrongLength}
+use Rattle.chooser.specs.declared.Fault.TheVariants.{NoVariable}
 use Rattle.syntax.specs.Problems.{Problem, Lawful}
 use Rattle.finder.specs.Tables.{first_table}
 use Rattle.finder.specs.Clauses.{Extended}
 use Rattle.unknowns.specs.Listing.{Stands}
 use Rattle.histories.specs.States.{State, begun, start}
 use Rattle.histories.specs.Calls.{not_new, too_few, begins}
+use Rattle.recording.proofs.Clauses.{no_fault}
+use Rattle.rounds.proofs.Turning.{same_same}
 use Rattle.sessions.specs.declared.faults.SessionFault.{SessionFault}
 use Rattle.sessions.specs.declared.faults.SessionFault.TheVariants.{NotNew, TooFewVariables}
 use Rattle.sessions.specs.declared.session.Session.{Session}
@@ -20,6 +22,7 @@ use Rattle.sessions.specs.declared.session.Begun.{Begun}
 use Rattle.sessions.specs.Shown.{Shows, ShowsBegun}
 use Rattle.sessions.specs.Beginning.{IsNew, Began}
 
+-- no goal is in force at first
 abbrev pub all_off : List Bool → Bool
 all_off [] = true
 all_off (b ∷ bs) = not b && all_off bs
@@ -45,6 +48,7 @@ shows_start p b M goals off stands count left model counts =
       decides = λ m e. absurd (none-ne-some m e);
     }
 
+-- what is allotted after asking
 pub asked_first : {M M₁ M' : Meaning} {m : ℕ} → Same M M₁ → Extended M₁ M' m [] → Extended M M' m []
 asked_first s x =
     let c = s.counts in
@@ -62,24 +66,9 @@ asked_first s x =
       allows = λ w. x.allows w ∙ ap (λ b. b && true) (s.allows w);
     }
 
-no_fault : (e : Fault) → fault_number e ≡ 0 → ⊥
-no_fault NoVariable h = omega (arith, h)
-no_fault Unallotted h = omega (arith, h)
-no_fault NoEntries h = omega (arith, h)
-no_fault WrongLength h = omega (arith, h)
-
 -- with room left a variable is not refused
 pub not_refused : (M : Meaning) (e : Fault) → fault_number e ≡ new_refusal M → 0 < M.room → ⊥
 not_refused M e n h = no_fault e (n ∙ cond-false _ _ _ (ne_eqb M.room 0 (λ q. omega (arith, q, h))))
-
-same_then : {M M₁ M₂ : Meaning} → Same M M₁ → Same M₁ M₂ → Same M M₂
-same_then s r =
-    record {
-      counts = r.counts ∙ s.counts;
-      rooms = r.rooms ∙ s.rooms;
-      leaves = r.leaves ∙ s.leaves;
-      allows = λ w. r.allows w ∙ s.allows w;
-    }
 
 module _ {U : Type 0} {p : Problem} {S : State} {M M₁ : Meaning} {b : Bool} (new : IsNew M b) (same : Same M M₁) where
   pub refused_old : {s' : Session} → b ≡ false → Shows s' S → Began {U = U} p S M s' M₁ (Err NotNew)
@@ -91,7 +80,7 @@ module _ {U : Type 0} {p : Problem} {S : State} {M M₁ : Meaning} {b : Bool} (n
       let new' = subst (IsNew M) e new in
       let rooms = same.rooms in
       subst (Began {U = U} p S M s' M') (sym is)
-      (record { state = S; begins = too_few new'.0 new'.1 (omega (arith, k, few, rooms)) (same_then same s); shows = h })
+      (record { state = S; begins = too_few new'.0 new'.1 (omega (arith, k, few, rooms)) (same_same same s); shows = h })
 
   pub begun_so : {u : U} {M' : Meaning} {left : ℕ} (x : Begun) (n : ℕ) → Lawful p → b ≡ true → n ≡ length p.goals → n ≤ M₁.room
       → Extended M₁ M' n [] → left ≡ M'.left

@@ -1,4 +1,6 @@
 pub mod Faults
 pub mod Shown
-pub mod Forcing
+pub mod Force
 pub mod Beginning
+pub mod Limits
+pub mod Searching

@@ -6,12 +6,12 @@ ghost use Rattle.histories.specs.States.{State, start};
 ghost use Rattle.sessions.specs.Shown.{Shows, ShowsBegun};
 ghost use Rattle.sessions.specs.Beginning.{IsNew, Switches, Began};
 
-use crate::chooser_seen::variables;
 use crate::faults::SessionFault;
-use crate::session::{Begun, Session};
+use crate::seen::variables;
+use crate::session::{Begun, MOST_GOALS, Session};
 use chooser::{Answer, Chooser, Fault};
 use problem::problem::Problem;
-use unknowns::table::Table;
+use unknowns::table::{MOST, Table};
 
 // Whether the chooser has no variables and allows a way: then it allows the only one that there is.
 fn is_new<C: Chooser>(chooser: &mut C) -> bool
@@ -45,11 +45,11 @@ impl Begun {
         let goals = problem.goals();
         Begun {
             goals,
-            force: [false; 32],
+            force: [false; MOST_GOALS],
             table: Table::new(problem),
             count: goals as u16,
             left,
-            cases: [None; 512],
+            cases: [None; MOST],
             model: false,
         }
     }
@@ -64,7 +64,7 @@ impl Session {
         chooser: &mut C,
     ) -> Result<(), SessionFault>
         ensures begins { (S : State) → Shows self.old S → Began (meant problem.now) S (C.Chooser.meaning chooser.old) self.new (C.Chooser.meaning chooser.new) result }
-        ensures kept { OnErr result (self.new ≡ self.old) }
+        ensures refused { OnErr result ((self.new ≡ self.old) × Same (C.Chooser.meaning chooser.old) (C.Chooser.meaning chooser.new)) }
     {
         if !is_new(chooser) {
             return Err(SessionFault::NotNew);

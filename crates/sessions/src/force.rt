@@ -6,7 +6,7 @@ ghost use Rattle.histories.specs.States.{State};
 ghost use Rattle.histories.specs.Calls.{put_refusal, after_put, give_back_refusal, after_give_back};
 ghost use Rattle.sessions.specs.Faults.{refusal_of};
 ghost use Rattle.sessions.specs.Shown.{Shows};
-ghost use Rattle.sessions.specs.Forcing.{SetsForce, Makes};
+ghost use Rattle.sessions.specs.Force.{SetsForce, Makes};
 
 use crate::faults::SessionFault;
 use crate::session::{Begun, Session};

@@ -2,8 +2,10 @@
 #![tactic(auto)]
 
 mod beginning;
-mod chooser_seen;
 pub mod faults;
 mod force;
+mod limits;
+mod searching;
+mod seen;
 pub mod session;
 pub mod slip;

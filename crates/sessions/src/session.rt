@@ -1,20 +1,23 @@
 // A session, as it lies in memory that its caller lends.
 ghost use Rattle.std.specs.Prelude.{◌≤◌};
 
-use unknowns::table::{Case, Table};
+use unknowns::table::{Case, MOST, Table};
+
+// The most goals of a problem.
+pub(crate) const MOST_GOALS: usize = 32;
 
 // A session that has begun.
 #[derive(Drop)]
 pub(crate) struct Begun {
     // How many goals the problem has, and which of them are in force.
     pub(crate) goals: usize,
-    pub(crate) force: [bool; 32],
+    pub(crate) force: [bool; MOST_GOALS],
     pub(crate) table: Table,
     // The chooser's count of variables and its entries left, as last seen.
     pub(crate) count: u16,
     pub(crate) left: usize,
     // The cases of the last way, and whether they are a model at hand.
-    pub(crate) cases: [Option<Case>; 512],
+    pub(crate) cases: [Option<Case>; MOST],
     pub(crate) model: bool,
     ghost few: { goals ≤ 32 },
 }

@@ -15,13 +15,6 @@ impl Drop for Slip {
 }
 
 impl Slip {
-    // The goal that a live slip names.
-    pub fn goal(&self) -> Option<u8>
-        ensures { result ≡ self.now.goal }
-    {
-        self.goal
-    }
-
     // Uses the slip up.
     pub(crate) fn into_goal(self) -> Option<u8>
         ensures { result ≡ self.goal }
