@@ -79,7 +79,7 @@ module _ (l : Limits) (s : Abstract) (M : Meaning) (b b' : Begun) (shown : Shows
       sought_shallow shallow table count left found a is =
           record {
             after = after_search s (known s) M l.depth l.steps none_within;
-            told = no_round none_within;
+            answer = no_round none_within;
             tells = is;
             shows =
                 shows_after (known s) M none_within
@@ -96,7 +96,7 @@ module _ (l : Limits) (s : Abstract) (M : Meaning) (b b' : Begun) (shown : Shows
       sought_made {M'} r deep count left found ran =
           record {
             after = after_search s ran_so.known_then M' l.depth l.steps ran_so.answer.outcome;
-            told = ran_so.answer;
+            answer = ran_so.answer;
             tells = ran_so.told;
             shows =
                 shows_after ran_so.known_then M' ran_so.answer.outcome ran_so.stands count left

@@ -16,7 +16,7 @@ use Rattle.rounds.specs.declared.search.Limits.{Limits}
 use Rattle.sessions.specs.declared.session.Begun.{Begun}
 use Rattle.sessions.specs.declared.session.Session.{Session}
 use Rattle.sessions.specs.declared.faults.SessionFault.{SessionFault}
-use Rattle.sessions.specs.Faults.{refusal_of}
+use Rattle.sessions.specs.Faults.{refusal_of, told}
 use Rattle.sessions.specs.Shown.{Shows, ShowsBegun}
 
 abbrev pub is_model_found : Outcome → Bool
@@ -41,9 +41,9 @@ Tells (refused r) (Err f) = r ≡ refusal_of f
 Tells (answered t) (Ok a) = a ≡ answer_of t
 Tells (answered t) (Err f) = ⊥
 
--- A search from the state S is one by the relation of that call. So after whatever calls led to S it overlooks nothing: what is
--- claimed of a search holds of this one.
-pub record Searched (l : Limits) (buffers : Bool) (S : State) (M : Meaning) (s' : Session) (M' : Meaning) (r : Result Answer SessionFault) : Type 0 where
+-- A search with the session's own problem, from the state S, is one by the relation of that call. So after whatever calls led to
+-- S it overlooks nothing: what is claimed of a search holds of this one.
+pub record FoundBy (l : Limits) (buffers : Bool) (S : State) (M : Meaning) (s' : Session) (M' : Meaning) (r : Result Answer SessionFault) : Type 0 where
   pub state : State
   pub reply : Reply
   pub searches : Searches l.depth l.rounds l.steps buffers S M reply state M'
@@ -51,11 +51,16 @@ pub record Searched (l : Limits) (buffers : Bool) (S : State) (M : Meaning) (s' 
   pub tells : Tells reply r
   pub overlooks_nothing : (es : List Event) → History es S M → Claims l.depth l.steps S reply state
 
+-- Which refusal comes is exact for whatever problem the call is passed; the search is by the relation if it is the session's own.
+pub record Searched (p : Problem) (l : Limits) (buffers : Bool) (S : State) (M : Meaning) (s' : Session) (M' : Meaning) (r : Result Answer SessionFault) : Type 0 where
+  pub refuses : told r ≡ search_refusal S M l.depth l.rounds l.steps buffers
+  pub finds : OfProblem p S → FoundBy l buffers S M s' M' r
+
 -- the same of a search that no test refuses, from a session that has begun
 pub record Sought (l : Limits) (s : Abstract) (M : Meaning) (b' : Begun) (M' : Meaning) (a : Answer) : Type 0 where
   pub after : Abstract
-  pub told : Told
-  pub tells : a ≡ answer_of told
+  pub answer : Told
+  pub tells : a ≡ answer_of answer
   pub shows : ShowsBegun b' after
   pub searches : (buffers : Bool) → search_refusal (begun s) M l.depth l.rounds l.steps buffers ≡ none
-      → Searches l.depth l.rounds l.steps buffers (begun s) M (answered told) (begun after) M'
+      → Searches l.depth l.rounds l.steps buffers (begun s) M (answered answer) (begun after) M'

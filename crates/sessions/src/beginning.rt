@@ -7,20 +7,17 @@ ghost use Rattle.sessions.specs.Shown.{Shows, ShowsBegun};
 ghost use Rattle.sessions.specs.Beginning.{IsNew, Switches, Began};
 
 use crate::faults::SessionFault;
-use crate::seen::variables;
 use crate::session::{Begun, MOST_GOALS, Session};
 use chooser::{Answer, Chooser, Fault};
 use problem::problem::Problem;
 use unknowns::table::{MOST, Table};
 
-// Whether the chooser has no variables and allows a way: then it allows the only one that there is.
+// Whether the chooser has no variables and allows a way: then it allows the only one that there is. Where it has variables, it
+// refuses an answer that has no byte for them.
 fn is_new<C: Chooser>(chooser: &mut C) -> bool
     ensures same { Same (C.Chooser.meaning chooser.old) (C.Chooser.meaning chooser.new) }
     ensures new { IsNew (C.Chooser.meaning chooser.old) result }
 {
-    if variables(chooser) > 0 {
-        return false;
-    }
     matches!(chooser.ask(&[], &mut []), Ok(Answer::Yes))
 }
 

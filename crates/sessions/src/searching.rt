@@ -8,7 +8,7 @@ ghost use Rattle.histories.specs.Calls.{seen};
 ghost use Rattle.rounds.specs.Lent.{Kept};
 ghost use Rattle.sessions.specs.Shown.{Shows, ShowsBegun};
 ghost use Rattle.sessions.specs.Limits.{suffice};
-ghost use Rattle.sessions.specs.Searching.{OfProblem, is_model_found, Sought, Searched};
+ghost use Rattle.sessions.specs.Searching.{is_model_found, Sought, Searched};
 
 use crate::faults::SessionFault;
 use crate::limits::{check_limits, has_room};
@@ -78,10 +78,10 @@ impl Begun {
 }
 
 impl Session {
-    // Searches for an assignment no deeper than the depth under which each goal in force comes to true. The problem and the chooser
-    // have to be those that the session began with. Refused, with nothing changed, with 40 where the depth is out of its limits,
-    // then with 41 where the rounds or the steps are, then with 42 where what is lent does not suffice, and then with 43 before
-    // begin and where the chooser is not as last seen.
+    // Searches for an assignment no deeper than the depth under which each goal in force comes to true. What it answers is promised
+    // where the problem and the chooser are those that the session began with. Refused, with nothing changed, with 40 where the
+    // depth is out of its limits, then with 41 where the rounds or the steps are, then with 42 where what is lent does not suffice,
+    // and then with 43 before begin and where the chooser is not as last seen.
     pub fn search<C: Chooser>(
         &mut self,
         problem: &Problem,
@@ -90,7 +90,7 @@ impl Session {
         way: &mut [u8],
         lent: &mut Lent<'_>,
     ) -> Result<Answer, SessionFault>
-        ensures searched { (S : State) → Shows self.old S → OfProblem (meant problem.now) S → Searched limits (suffice C.Chooser.most limits.steps (length lent.old.places.now) (length way.old) (length lent.old.literals.now)) S (C.Chooser.meaning chooser.old) self.new (C.Chooser.meaning chooser.new) result }
+        ensures searched { (S : State) → Shows self.old S → Searched (meant problem.now) limits (suffice C.Chooser.most limits.steps (length lent.old.places.now) (length way.old) (length lent.old.literals.now)) S (C.Chooser.meaning chooser.old) self.new (C.Chooser.meaning chooser.new) result }
         ensures refused { OnErr result ((self.new ≡ self.old) × Same (C.Chooser.meaning chooser.old) (C.Chooser.meaning chooser.new)) }
         ensures kept { Kept lent.old lent.new }
     {

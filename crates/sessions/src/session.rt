@@ -17,6 +17,7 @@ pub(crate) struct Begun {
     pub(crate) count: u16,
     pub(crate) left: usize,
     // The cases of the last way, and whether they are a model at hand.
+    // Kept as it is: a flag beside the cases and no Option of them, since a search writes them where they lie.
     pub(crate) cases: [Option<Case>; MOST],
     pub(crate) model: bool,
     ghost few: { goals ≤ 32 },
