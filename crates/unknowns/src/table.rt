@@ -27,12 +27,13 @@ pub struct Table {
     ghost few: { len ≤ 512 },
 }
 
-// The case that a way gives an opened unknown: its constructor, and where its children stand.
+// The case that a way gives an opened unknown: its constructor, and where its children stand, of which there are at most six.
 #[derive(Clone, Copy)]
 pub struct Case {
     pub constructor: u8,
     pub count: u8,
     pub kids: u16,
+    ghost few: { count ≤ 6 },
 }
 
 impl Unknown {
