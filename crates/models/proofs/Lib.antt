@@ -5,3 +5,5 @@ pub mod Walking
 pub mod Counting
 pub mod Bound
 pub mod Recording
+pub mod Sites
+pub mod Replays
