@@ -3,15 +3,27 @@ use Rattle.std.proofs.Common.{◌≡◌, ℕ, ◌+◌, ◌<◌, ◌≤◌, List,
 use Rattle.syntax.specs.Typing.{Sig}
 use Rattle.syntax.specs.Problems.{Problem, sig_of, Lawful}
 use Rattle.judging.specs.Paths.{root, Decision, type_of}
-use Rattle.finder.specs.Ways.{decided}
-use Rattle.finder.specs.Models.{Shows}
+use Rattle.finder.specs.Tables.{Table}
+use Rattle.finder.specs.Ways.{Way, decided}
+use Rattle.finder.specs.Models.{Partials, Shows, ModelOf}
+use Rattle.unknowns.specs.Listing.{Stands}
 use Rattle.unknowns.specs.declared.table.Table.{Table as Code}
 use Rattle.unknowns.specs.declared.table.Case.{Case}
-use Rattle.models.specs.Models.{written_value, written_model, Wrote, WritesModel}
+use Rattle.models.specs.Models.{written_value, written_model, most_bytes, Wrote, WritesModel}
 use Rattle.models.specs.Walks.{ValueAt, bytes_of, Appended, ValueWritten, ModelAt}
 use Rattle.models.proofs.Existence.{model_exists}
 use Rattle.models.proofs.Rows.{records_left, next_record, no_records}
 use Rattle.models.proofs.Bound.{model_low}
+
+-- a model has room, as a problem has at most 16 unknowns and a table 512
+pub fits : (p : Problem) (lawful : Lawful p) (t : Code) (T : Table) (count : ℕ) (w : Way) (qs : Partials) → Stands p t T count
+    → ModelOf p (decided p T w) qs → length (written_model p qs) ≤ most_bytes
+fits p lawful t T count w qs stands shown =
+    let low = model_low p T count w qs stands.tabled shown in
+    let few = lawful.few_unknowns in
+    let long = stands.lists.long in
+    let most = t.few in
+    omega (arith, low, few, long, most)
 
 module _ {p : Problem} {t : Code} {cases : List (Option Case)} (m : ModelAt p t cases) where
   abbrev sig : Sig
@@ -46,14 +58,6 @@ module _ {p : Problem} {t : Code} {cases : List (Option Case)} (m : ModelAt p t 
   pub no_more : (k : ℕ) → length p.unknowns ≤ k → left k ≡ []
   no_more k l = no_records sig δ root p.unknowns m.partials m.shows k l
 
-  pub fits : Lawful p → length (written_model p m.partials) ≤ 1584
-  fits lawful =
-      let low = model_low p m.table m.count m.way m.partials m.stands.tabled m.shows in
-      let few = lawful.few_unknowns in
-      let long = m.stands.lists.long in
-      let most = t.few in
-      omega (arith, low, few, long, most)
-
 -- With the records before number k written: the bytes so far, and those that are left, are the whole.
 pub record Recorded (p : Problem) (t : Code) (cases : List (Option Case)) (now : List ℕ) (k : ℕ) : Type 0 where
   pub whole : (m : ModelAt p t cases) → now ++ left m k ≡ written_model p m.partials
@@ -63,16 +67,16 @@ module _ {p : Problem} (lawful : Lawful p) {t : Code} {cases : List (Option Case
   abbrev value : ModelAt p t cases → ValueAt t cases k
   value m = (root_at m k l).0
 
-  record_fits : (m : ModelAt p t cases) → length now + 3 + length (bytes_of (value m)) ≤ 1584
+  record_fits : (m : ModelAt p t cases) → length now + 3 + length (bytes_of (value m)) ≤ most_bytes
   record_fits m =
       let sum = ap length (recorded.whole m) in
       let split = ap length (root_at m k l).1 in
       let a = length-append now (left m k) in
       let b = length-append (bytes_of (value m)) (left m (k + 1)) in
-      let low = fits m lawful in
+      let low = fits p lawful t m.table m.count m.way m.partials m.stands m.shows in
       omega (arith, sum, split, a, b, low)
 
-  pub mark_fits : ModelAt p t cases → length now + 3 ≤ 1584
+  pub mark_fits : ModelAt p t cases → length now + 3 ≤ most_bytes
   mark_fits m = let all = record_fits m in omega (arith, all)
 
   module _ (mid : List ℕ) (marked : mid ≡ now ++ 0x4D ∷ (0x44 ∷ (k ∷ []))) where
@@ -104,11 +108,12 @@ all_recorded now k recorded over m =
     sym (append-nil now) ∙ ap (λ bytes. now ++ bytes) (sym (no_more m k over)) ∙ recorded.whole m
 
 -- what is written of every model of the problem that a way of the cases makes
-pub writes_model : {E : Type 0} (p : Problem) (t : Code) (cases : List (Option Case)) (old new : List ℕ) (r : Result ℕ E)
+pub writes_model : {E : Type 0} (p : Problem) (lawful : Lawful p) (t : Code) (cases : List (Option Case)) (old new : List ℕ) (r : Result ℕ E)
     → ((m : ModelAt p t cases) → Wrote (written_model p m.partials) old new r) → WritesModel p t cases old new r
-writes_model p t cases old new r f =
+writes_model p lawful t cases old new r f =
     record {
       exists = λ T count w stands. model_exists p t T count w stands;
+      low = λ T count w qs stands shows. fits p lawful t T count w qs stands shows;
       writes = λ T count w qs stands decides shows.
           f (record { table = T; count = count; way = w; stands = stands; decides = decides; partials = qs; shows = shows });
     }

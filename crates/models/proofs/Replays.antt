@@ -1,9 +1,8 @@
 -- A replay of a written model judges as the model does: each path that judging asks for is named by the place of its part in the
 -- bytes, and the byte there decides it as the model does.
-use Rattle.std.proofs.Common.{◌≡◌, ℕ, zero, suc, ◌+◌, ◌<◌, ◌≤◌, Bool, true, false, cond, eqb, ltb, leb, List, [], ◌∷◌, ◌++◌, map, length, get_or, drop, Ok, Err, Result, refl, sym, ap, ◌∙◌, subst, arith, drop-cons}
-use Rattle.std.proofs.lemmas.Bool.{lt-ltb, le-leb, eq-eqb, ne_eqb, cond-true}
+use Rattle.std.proofs.Common.{◌≡◌, ℕ, zero, suc, ◌+◌, ◌*◌, ◌≤◌, Bool, true, false, cond, eqb, ltb, leb, List, [], ◌∷◌, ◌++◌, map, length, get_or, drop, Ok, Err, Result, refl, sym, ap, ◌∙◌, subst, arith, drop-cons}
+use Rattle.std.proofs.lemmas.Bool.{and_from, lt-ltb, le-leb, eq-eqb, cond-true}
 use mathlib.Core.Option.{Option, none, some, some-injective, none-ne-some}
-use Rattle.syntax.specs.declared.faults.Fault.{Fault}
 use Rattle.syntax.specs.declared.faults.Reason.TheVariants.{TooLong}
 use Rattle.syntax.specs.Faults.{fault}
 use Rattle.syntax.specs.Typing.{Sig, arguments}
@@ -20,20 +19,25 @@ use Rattle.judging.proofs.Scope.{lawful_scoped}
 use Rattle.judging.proofs.Asked.{all_members, goal_like}
 use Rattle.judging.proofs.Reached.{asked_paths}
 use Rattle.judge.specs.Outcomes.{outcome, byte_of}
-use Rattle.finder.specs.Tables.{Table, Tabled}
+use Rattle.finder.specs.Tables.{Table}
 use Rattle.finder.specs.Ways.{Way, decided}
-use Rattle.finder.specs.Models.{Partial, open_part, built, Partials, o[], ◌o∷◌, Shows, shows_open, shows_built, ShowsAll, s[], ◌s∷◌, ModelOf, argument_partial, nth_partial, part_of, head_of, replayed}
+use Rattle.finder.specs.Models.{Partial, open_part, built, Partials, o[], ◌o∷◌, Shows, shows_built, ShowsAll, ◌s∷◌, argument_partial, nth_partial, part_of, head_of, replayed}
 use Rattle.finder.proofs.Ways.{decided_says}
 use Rattle.model.specs.Partial.{OfType, OfTypes, all_written}
 use Rattle.model.specs.Reading.{places_from, reading}
 use Rattle.model.specs.Places.{starts_from, chosen_at, decided_by}
 use Rattle.model.proofs.Bytes.{at_byte}
 use Rattle.model.proofs.Starts.{starts_length}
-use Rattle.unknowns.specs.Listing.{Stands}
-use Rattle.models.specs.Models.{part, parts, written_value, written_model}
-use Rattle.models.specs.Replays.{ReplaysTrue, WrittenReplays}
-use Rattle.models.proofs.Bound.{model_low}
-use Rattle.models.proofs.Sites.{Site, SiteIn, Sited, arguments_sited, Read, records_read}
+use Rattle.models.specs.Models.{part, parts, written_model}
+use Rattle.replay.specs.declared.faults.ReplayFault.{ReplayFault}
+use Rattle.replay.specs.declared.faults.ReplayFault.TheVariants.{Steps, Places, AnswerLength}
+use Rattle.replay.specs.Replays.{answer_of, whole, accepted, Replayed}
+use Rattle.models.specs.Replays.{WrittenReplays, OneInForce, ReplayAnswers}
+use Rattle.models.proofs.Recording.{fits}
+use Rattle.models.proofs.Sites.{Site, Sited, arguments_sited, records_read}
+
+ok_is : {E : Type 0} (xs ys : List ℕ) → ◌≡◌ {A = Result (List ℕ) E} (Ok xs) (Ok ys) → xs ≡ ys
+ok_is xs ys h = cc
 
 -- what a way shows has the types of its places
 module _ (p : Problem) (T : Table) (w : Way) where
@@ -179,16 +183,34 @@ pub written_replays_lem : WrittenReplays
 written_replays_lem p lawful t T count w qs stands shown force steps true_by =
     let bs = written_model p qs in
     let r = records_read (sig_of p) bs p.unknowns qs 0 0 (all_typed p T w root p.unknowns qs shown (λ j. refl)) refl in
-    let low = model_low p T count w qs stands.tabled shown in
-    let few = lawful.few_unknowns in
-    let long = stands.lists.long in
-    let most = t.few in
+    let low = fits p lawful t T count w qs stands shown in
     record {
       roots = r.roots;
       reads =
-          ap (λ (b : Bool). cond b (places_from (sig_of p) bs 0 p.unknowns 0) (Err (fault TooLong 16384))) (le-leb (length bs) 16384 (omega (arith, low, few, long, most)))
+          ap (λ (b : Bool). cond b (places_from (sig_of p) bs 0 p.unknowns 0) (Err (fault TooLong 16384))) (le-leb (length bs) 16384 (omega (arith, low)))
           ∙ r.reads;
       answers = λ g l e.
           let j = true_by g l e in
           ap (λ o. byte_of (outcome o)) (judges_same p lawful qs bs r.roots r.sited g steps ∙ ap (result (named_head (name p lawful qs bs r.roots r.sited))) j.3);
     }
+
+-- and what a call of replay answers by it
+pub replay_answers_lem : ReplayAnswers
+replay_answers_lem p bytes force steps places before after r t some_steps few_steps room size said = go r said
+  where
+    taken : accepted p bytes steps places (length before) ≡ Ok t.roots
+    taken =
+        ap (λ (b : Bool). cond b (cond (leb (6 * steps) places) (cond (eqb (length before) (length p.goals)) (whole (reading p bytes)) (Err AnswerLength)) (Err Places)) (Err Steps))
+        (and_from (leb 1 steps) (leb steps 4096) (le-leb 1 steps some_steps) (le-leb steps 4096 few_steps))
+        ∙ ap (λ (b : Bool). cond b (cond (eqb (length before) (length p.goals)) (whole (reading p bytes)) (Err AnswerLength)) (Err Places)) (le-leb (6 * steps) places room)
+        ∙ ap (λ (b : Bool). cond b (whole (reading p bytes)) (Err AnswerLength)) (eq-eqb (length before) (length p.goals) size)
+        ∙ ap whole t.reads
+
+    go : (r : Result (Unit {0}) ReplayFault) → Replayed p bytes steps places before after r → (r ≡ Ok tt) × OneInForce p force after
+    go (Ok u) s =
+        let same : s.0 ≡ t.roots = ok_is s.0 t.roots (sym s.1 ∙ taken) in
+        (refl, λ g l e. s.2 g l ∙ ap (λ roots. answer_of p (decided_by p bytes roots) steps g) same ∙ t.answers g l e)
+    go (Err e) s = never (sym s.0 ∙ taken)
+      where
+        never : {roots : List ℕ} {B : Type 0} → ◌≡◌ {A = Result (List ℕ) ReplayFault} (Err e) (Ok roots) → B
+        never h = let z : ◌≡◌ {A = ℕ} 0 1 = cc in absurd (omega arith)

@@ -1,6 +1,6 @@
 -- Where the parts of a written model stand in its bytes: the values of the problem's unknowns where reading puts them, and the
 -- arguments of what is built one after another behind it.
-use Rattle.std.proofs.Common.{◌≡◌, ℕ, zero, suc, ◌+◌, ◌<◌, ◌≤◌, Bool, cond, ltb, List, [], ◌∷◌, ◌++◌, length, get_or, drop, Ok, Err, Result, refl, sym, ap, ◌∙◌, arith, append_assoc, length-drop}
+use Rattle.std.proofs.Common.{◌≡◌, ℕ, zero, suc, ◌+◌, ◌<◌, ◌≤◌, Bool, cond, List, [], ◌∷◌, ◌++◌, length, get_or, drop, Ok, Err, Result, refl, ap, ◌∙◌, arith, append_assoc, length-drop}
 use Rattle.std.proofs.lemmas.Bool.{le-ltb}
 use mathlib.Core.Option.{some}
 use Rattle.syntax.specs.declared.faults.Fault.{Fault}
@@ -9,7 +9,7 @@ use Rattle.syntax.specs.Faults.{fault}
 use Rattle.syntax.specs.Typing.{Sig}
 use Rattle.finder.specs.Models.{Partial, Partials, o[], ◌o∷◌, nth_partial}
 use Rattle.model.specs.Partial.{OfType, OfTypes, all_written, encode_from}
-use Rattle.model.specs.Reading.{and_then, value_end, start_of, preceded, places_from}
+use Rattle.model.specs.Reading.{and_then, value_end, preceded, places_from}
 use Rattle.model.specs.Places.{or_stay, starts_from}
 use Rattle.model.proofs.Exactness.{past_part, value_complete, start_complete}
 use Rattle.models.specs.Models.{part, parts, written_value}

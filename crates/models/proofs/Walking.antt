@@ -4,12 +4,13 @@ use Rattle.std.proofs.lemmas.Bool.{false≢true}
 use Rattle.unknowns.specs.Listing.{row}
 use Rattle.unknowns.specs.declared.table.Table.{Table as Code}
 use Rattle.unknowns.specs.declared.table.Case.{Case}
+use Rattle.models.specs.Models.{most_bytes}
 use Rattle.models.specs.Walks.{CaseAt, ValueAt, bytes_of, Appended, ValueWritten}
 use Rattle.models.proofs.Values.{type_is, left, whole, nothing_left, child_at, open_bytes}
 
 -- what has room is appended
-pub appended : {U E : Type 0} (r : Result U E) (old new bytes : List ℕ) → (IsOk r ↔ (length old + length bytes ≤ 1584))
-    → OnOk r (new ≡ old ++ bytes) → length old + length bytes ≤ 1584 → Appended bytes old new r
+pub appended : {U E : Type 0} (r : Result U E) (old new bytes : List ℕ) → (IsOk r ↔ (length old + length bytes ≤ most_bytes))
+    → OnOk r (new ≡ old ++ bytes) → length old + length bytes ≤ most_bytes → Appended bytes old new r
 appended (Ok u) old new bytes variant ok room = ok
 appended (Err e) old new bytes variant ok room = absurd (false≢true (variant.1 room))
 
@@ -18,31 +19,31 @@ one_case e f = cc
 
 -- With the children before the place `next` written: the bytes so far, and those that are left, are the whole.
 pub record Walked (t : Code) (cases : List (Option Case)) (i : ℕ) (old now : List ℕ) (next : ℕ) : Type 0 where
-  pub whole : (v : ValueAt t cases i) → length old + length (bytes_of v) ≤ 1584 → (x : Case) (is : get_or cases i None ≡ Some x)
+  pub whole : (v : ValueAt t cases i) → length old + length (bytes_of v) ≤ most_bytes → (x : Case) (is : get_or cases i None ≡ Some x)
       → now ++ left v x (next - x.kids) ≡ old ++ bytes_of v
 
 module _ {t : Code} {cases : List (Option Case)} {i : ℕ} (old : List ℕ) where
-  pub open_written : {U E : Type 0} (new : List ℕ) (r : Result U E) → CaseAt t cases i None → (IsOk r ↔ (length old + 1 ≤ 1584))
+  pub open_written : {U E : Type 0} (new : List ℕ) (r : Result U E) → CaseAt t cases i None → (IsOk r ↔ (length old + 1 ≤ most_bytes))
       → OnOk r (new ≡ old ++ 8 ∷ []) → ValueWritten t cases i old new r
   open_written new r none variant ok =
       record {
         writes = λ v room.
             subst (λ bytes. Appended bytes old new r) (sym (open_bytes v none))
-            (appended r old new (8 ∷ []) variant ok (subst (λ (bytes : List ℕ). length old + length bytes ≤ 1584) (open_bytes v none) room));
+            (appended r old new (8 ∷ []) variant ok (subst (λ (bytes : List ℕ). length old + length bytes ≤ most_bytes) (open_bytes v none) room));
       }
 
   module _ (y : Case) (here : get_or cases i None ≡ Some y) where
     -- the bytes that lead a value have room
-    lead_fits : (v : ValueAt t cases i) → length old + length (bytes_of v) ≤ 1584 → length old + 3 ≤ 1584
+    lead_fits : (v : ValueAt t cases i) → length old + length (bytes_of v) ≤ most_bytes → length old + 3 ≤ most_bytes
     lead_fits v room =
         let all = ap length (whole v y here) in
         omega (arith, room, all)
 
-    pub no_lead : {U E : Type 0} (new : List ℕ) (r : Result U E) (never : length old + 3 ≤ 1584 → ⊥) → ValueWritten t cases i old new r
+    pub no_lead : {U E : Type 0} (new : List ℕ) (r : Result U E) (never : length old + 3 ≤ most_bytes → ⊥) → ValueWritten t cases i old new r
     no_lead new r never = record { writes = λ v room. absurd (never (lead_fits v room)) }
 
     by_this_case : (now : List ℕ) (next : ℕ)
-        → ((v : ValueAt t cases i) → length old + length (bytes_of v) ≤ 1584 → now ++ left v y (next - y.kids) ≡ old ++ bytes_of v)
+        → ((v : ValueAt t cases i) → length old + length (bytes_of v) ≤ most_bytes → now ++ left v y (next - y.kids) ≡ old ++ bytes_of v)
         → Walked t cases i old now next
     by_this_case now next f =
         record { whole = λ v room x there. subst (λ (c : Case). now ++ left v c (next - c.kids) ≡ old ++ bytes_of v) (one_case here there) (f v room) }
@@ -60,7 +61,7 @@ module _ {t : Code} {cases : List (Option Case)} {i : ℕ} (old : List ℕ) wher
         ∙ ap (λ bytes. old ++ bytes) (sym (whole v y here)))
 
     module _ (now : List ℕ) (next : ℕ) (walked : Walked t cases i old now next) where
-      module _ (after : y.kids ≤ next) (before : next < y.kids + y.count) (v : ValueAt t cases i) (room : length old + length (bytes_of v) ≤ 1584) where
+      module _ (after : y.kids ≤ next) (before : next < y.kids + y.count) (v : ValueAt t cases i) (room : length old + length (bytes_of v) ≤ most_bytes) where
         abbrev j : ℕ
         j = next - y.kids
 
@@ -70,7 +71,7 @@ module _ {t : Code} {cases : List (Option Case)} {i : ℕ} (old : List ℕ) wher
         at_next : y.kids + j ≡ next
         at_next = omega (arith, after)
 
-        child_fits : length now + length (bytes_of nth.0) ≤ 1584
+        child_fits : length now + length (bytes_of nth.0) ≤ most_bytes
         child_fits =
             let sum = ap length (walked.whole v room y here) in
             let split = ap length nth.1 in

@@ -10,7 +10,7 @@ use Rattle.arrayvec.specs.ArrayVec.{ArrayVec}
 use Rattle.unknowns.specs.Listing.{row, Stands, DecidesAs}
 use Rattle.unknowns.specs.declared.table.Table.{Table as Code}
 use Rattle.unknowns.specs.declared.table.Case.{Case}
-use Rattle.models.specs.Models.{written_value, written_model}
+use Rattle.models.specs.Models.{written_value, written_model, most_bytes}
 
 -- the type and the case at a place of the code's table, if there is a case whose children stand after it
 abbrev pub CaseAt : Code → List (Option Case) → ℕ → Option (ℕ × Case) → Type 0
@@ -39,7 +39,7 @@ Appended bytes old new (Err e) = ⊥
 
 -- the value at the place i was appended, if it fits
 pub record ValueWritten {U E : Type 0} (t : Code) (cases : List (Option Case)) (i : ℕ) (old new : List ℕ) (r : Result U E) : Type 0 where
-  pub writes : (v : ValueAt t cases i) → length old + length (bytes_of v) ≤ 1584 → Appended (bytes_of v) old new r
+  pub writes : (v : ValueAt t cases i) → length old + length (bytes_of v) ≤ most_bytes → Appended (bytes_of v) old new r
 
 -- the model of the problem p that a way of these cases makes
 pub record ModelAt (p : Problem) (t : Code) (cases : List (Option Case)) : Type 0 where

@@ -6,12 +6,15 @@ ghost use Rattle.models.specs.Models.{WritesModel};
 
 use arrayvec::{ArrayVec, CapacityError};
 use problem::problem::Problem;
-use unknowns::table::{Case, Table};
+use unknowns::table::{Case, MOST, Table};
 
-// What leads the record of an unknown, and its number.
-const MARK: [u8; 2] = [0x4D, 0x44];
+// The most bytes that a model has: three for each of a problem's 16 unknowns, and at most three for each of a table's.
+const MOST_BYTES: usize = 3 * (16 + MOST);
 
-// What leads a value, before its type and its constructor.
+// The bytes of a model, as far as they are written.
+type Bytes = ArrayVec<u8, MOST_BYTES>;
+
+// What stands before the type and the constructor of a value.
 const BUILT: u8 = 2;
 
 // What stands for an open part.
@@ -21,7 +24,7 @@ const OPEN: u8 = 8;
 #[derive(Clone, Copy)]
 pub struct Short;
 
-// A table of unknowns with the cases of those that are decided.
+// A table of unknowns, with the cases of those that are decided.
 #[derive(Drop)]
 struct Decided<'a> {
     table: &'a Table,
@@ -35,15 +38,11 @@ impl Decided<'_> {
     {
         let unknown = self.table.rows.get(place)?;
         let case = (*self.cases.get(place)?)?;
-        if usize::from(case.kids) > place {
-            Some((unknown.ty, case))
-        } else {
-            None
-        }
+        (place < usize::from(case.kids)).then_some((unknown.ty, case))
     }
 
-    // Appends the value of an unknown.
-    fn write_value(&self, place: usize, bytes: &mut ArrayVec<u8, 1584>) -> Result<(), CapacityError>
+    // Appends the value of an unknown. It ends whatever the table and the cases are, soon: each value takes room.
+    fn write_value(&self, place: usize, bytes: &mut Bytes) -> Result<(), CapacityError>
         ensures { ValueWritten self.now.table.now self.now.cases.now place bytes.old.items bytes.new.items result }
     {
         let Some((ty, case)) = self.case(place) else {
@@ -58,18 +57,18 @@ impl Decided<'_> {
     }
 }
 
-// The bytes of the model. None has more than three for each unknown of the problem and three for each of the table.
+// The bytes of the model: for each unknown of the problem a mark, its number and its value.
 fn model_bytes(
     problem: &Problem,
     table: &Table,
     cases: &[Option<Case>],
-) -> Result<ArrayVec<u8, 1584>, CapacityError>
+) -> Result<Bytes, CapacityError>
     ensures { ModelWritten (meant problem.now) table.now cases.now result }
 {
     let decided = Decided { table, cases };
     let mut bytes = ArrayVec::new();
     for unknown in 0..problem.unknowns().len() {
-        bytes.try_extend_from_slice(&[MARK[0], MARK[1], unknown as u8])?;
+        bytes.try_extend_from_slice(&[b'M', b'D', unknown as u8])?;
         decided.write_value(unknown, &mut bytes)?;
     }
     Ok(bytes)
