@@ -21,7 +21,8 @@ fn is_one(way: &[u8], variable: usize) -> bool
     way.get(variable).is_some_and(|byte| *byte == 1)
 }
 
-// The case whose variable is 1, of so many with their variables one after another from `first` on; none if that is not one case.
+// The only case whose variable is 1, of `count` whose variables stand one after another from `first` on. None if there is no
+// such case, or more than one.
 fn only_case(way: &[u8], first: u16, count: u8) -> Option<u8>
     ensures { OnlyCase (written way.now) first count result }
 {
@@ -66,21 +67,12 @@ fn case_with(problem: &Problem, ty: u8, kids: u16, constructor: u8) -> Case
 fn case_of(problem: &Problem, unknown: &Unknown, way: &[u8]) -> Result<Option<Case>, NotOneCase>
     ensures { RowDecided (cases_of (sig_of (meant problem.now)) unknown.now.ty) (written way.now) unknown.now result }
 {
-    match unknown.first {
-        None => Ok(None),
-        Some(first) => {
-            let count = problem.constructors(unknown.ty);
-            match only_case(way, first, count) {
-                Some(constructor) => Ok(Some(case_with(
-                    problem,
-                    unknown.ty,
-                    unknown.kids,
-                    constructor,
-                ))),
-                None => Err(NotOneCase),
-            }
-        }
-    }
+    let Some(first) = unknown.first else {
+        return Ok(None);
+    };
+    let count = problem.constructors(unknown.ty);
+    let constructor = only_case(way, first, count).ok_or(NotOneCase)?;
+    Ok(Some(case_with(problem, unknown.ty, unknown.kids, constructor)))
 }
 
 // Puts down the case of each row.
