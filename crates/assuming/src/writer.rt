@@ -6,11 +6,11 @@ ghost use Rattle.assuming.specs.Written.{Pushed};
 #[derive(Drop)]
 pub(crate) struct LiteralWriter<'a> {
     literals: &'a mut [u16],
-    // How many are written.
     len: usize,
 }
 
 impl<'a> LiteralWriter<'a> {
+    // A writer that has written none.
     pub(crate) fn new(literals: &'a mut [u16]) -> LiteralWriter<'a>
         ensures same_reference { result.literals.ghost_name ≡ literals.entry.ghost_name }
         ensures literals { result.literals.now ≡ literals.old }
@@ -19,12 +19,14 @@ impl<'a> LiteralWriter<'a> {
         LiteralWriter { literals, len: 0 }
     }
 
+    // How many are written.
     pub(crate) fn len(&self) -> usize
         ensures { result ≡ self.now.len }
     {
         self.len
     }
 
+    // Writes a literal behind the others, if there is room.
     pub(crate) fn push(&mut self, literal: u16)
         ensures same_reference { self.new.literals.ghost_name ≡ self.old.literals.ghost_name }
         ensures pushed { Pushed self.old self.new (literal ∷ []) }
