@@ -12,7 +12,8 @@ use Rattle.unknowns.specs.declared.table.Case.{Case}
 use Rattle.rounds.specs.declared.search.Search.{Search}
 use Rattle.rounds.specs.declared.turn.Turn.TheVariants.{Closed, Recorded, Opened}
 use Rattle.rounds.specs.Turns.{GoesOn, Closes, Turned}
-use Rattle.rounds.specs.Run.{added, Gone, Going, RanTo, Ran}
+use Rattle.rounds.specs.Going.{added, Gone, Going}
+use Rattle.rounds.specs.Run.{RanTo, Ran}
 use Rattle.rounds.proofs.Turning.{no_model}
 
 told_as : {o : Outcome} {i j k i' j' k' : ℕ} → i ≡ i' → j ≡ j' → k ≡ k'

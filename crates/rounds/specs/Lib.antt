@@ -1,4 +1,5 @@
-pub mod Lent
+pub mod Run
 pub mod Turns
 pub mod Steps
-pub mod Run
+pub mod Going
+pub mod Lent

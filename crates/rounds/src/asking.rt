@@ -49,7 +49,7 @@ impl Search<'_> {
                 let switches = &literals[..assumed.switches];
                 Turn::Closed(none_or_never(chooser, switches, way))
             }
-            // The variables of a table that stands are the chooser's.
+            // Never from a table that stands: its literals are all of allotted variables.
             Err(_) => Turn::Closed(Outcome::Foreign),
         }
     }

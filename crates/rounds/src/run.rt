@@ -10,8 +10,8 @@ use chooser::Chooser;
 use unknowns::table::{Case, MOST, Table};
 
 impl Search<'_> {
-    // Makes rounds until one closes the search or no rounds are left. Where the outcome is `Model`, `cases` has the cases of that
-    // model's way.
+    // Makes rounds until one closes the search or no rounds are left. From a table that stands these are rounds as the relation has
+    // them, and where the outcome is `Model`, `cases` has the cases of that model's way. With any other table it returns too.
     pub fn run<C: Chooser>(
         &self,
         chooser: &mut C,

@@ -15,6 +15,7 @@ use unknowns::table::{Case, MOST, Table};
 
 impl Search<'_> {
     // Reads off the way which case each opened unknown has, and judges the goals by it.
+    #[tactic(auto, using(crate::proofs::Settled::settled_foreign, crate::proofs::Settled::settled_own))]
     pub(crate) fn settle<C: Chooser>(
         &self,
         chooser: &mut C,

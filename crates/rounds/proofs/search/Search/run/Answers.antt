@@ -1,7 +1,7 @@
 -- Each round adds one, or closes the search.
 use Rattle.std.proofs.Common.{ℕ, ◌+◌, refl, sym, subst, ◌∙◌, arith}
 use Rattle.rounds.specs.Lent.{Kept}
-use Rattle.rounds.specs.Run.{Going}
+use Rattle.rounds.specs.Going.{Going}
 use Rattle.rounds.proofs.Going.{going_none, going_opened, going_recorded, ended, all_spent}
 use Rattle.rounds.proofs.search.Search.run.Goals as goal
 use Rattle.rounds.proofs.search.Search.run.Goals.{in-Opened, in-Recorded}

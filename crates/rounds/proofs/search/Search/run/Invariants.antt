@@ -1,6 +1,6 @@
 -- Each round before opened an unknown or recorded a conflict, and what comes then counts for the whole with them added.
 use Rattle.rounds.specs.Lent.{Kept}
-use Rattle.rounds.specs.Run.{Going}
+use Rattle.rounds.specs.Going.{Going}
 use Rattle.rounds.proofs.search.Search.run.Given as goal
 
 abbrev pub invariant-loop-made : goal.invariant-loop-made
