@@ -1,5 +1,5 @@
 // Writes the model that the cases of a way make.
-ghost use Rattle.std.specs.Prelude.{◌≡◌};
+ghost use Rattle.std.specs.Prelude.{◌≡◌, OnErr};
 ghost use Rattle.problem.specs.Meant.{meant};
 ghost use Rattle.models.specs.Walks.{CaseAt, ValueWritten, ModelWritten};
 ghost use Rattle.models.specs.Models.{WritesModel};
@@ -81,7 +81,8 @@ pub fn write_model(
     cases: &[Option<Case>],
     output: &mut [u8],
 ) -> Result<usize, Short>
-    ensures { WritesModel (meant problem.now) table.now cases.now output.old output.new result }
+    ensures writes { WritesModel (meant problem.now) table.now cases.now output.old output.new result }
+    ensures refused { OnErr result (output.new ≡ output.old) }
 {
     let Ok(bytes) = model_bytes(problem, table, cases) else {
         return Err(Short);

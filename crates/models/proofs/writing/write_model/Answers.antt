@@ -4,19 +4,19 @@ use Rattle.judge.proofs.Limits.{lawful}
 use Rattle.models.proofs.Recording.{writes_model}
 use Rattle.models.proofs.writing.write_model.Goals as goal
 
-pub returns-in_default : goal.returns-in_default
-returns-in_default c =
+pub returns-in_default-clause-writes : goal.returns-in_default-clause-writes
+returns-in_default-clause-writes c =
     writes_model (meant c.args.problem.now) (lawful c.args.problem.now) c.args.table.now c.args.cases.now _ _ _ (λ m. absurd (c.in_default.ensures.holds m))
 
-pub returns-then-output-bytes : goal.returns-then-output-bytes
-returns-then-output-bytes c =
+pub returns-then-output-bytes-clause-writes : goal.returns-then-output-bytes-clause-writes
+returns-then-output-bytes-clause-writes c =
     writes_model (meant c.args.problem.now) (lawful c.args.problem.now) c.args.table.now c.args.cases.now _ _ _
     (λ m.
     let size = ap length (c.as_slice-bytes.ensures.value ∙ c.in-Ok.ensures.holds m) in
     (omega (arith, size), refl))
 
-pub returns : goal.returns
-returns c =
+pub returns-clause-writes : goal.returns-clause-writes
+returns-clause-writes c =
     writes_model (meant c.args.problem.now) (lawful c.args.problem.now) c.args.table.now c.args.cases.now _ _ _
     (λ m.
     let is = c.as_slice-bytes.ensures.value ∙ c.in-Ok.ensures.holds m in
