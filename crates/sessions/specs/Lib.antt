@@ -4,3 +4,4 @@ pub mod Force
 pub mod Beginning
 pub mod Limits
 pub mod Searching
+pub mod Modelling

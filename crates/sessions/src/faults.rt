@@ -1,9 +1,10 @@
 // Why a session refuses a call.
 ghost use Rattle.std.specs.Prelude.{◌≡◌, Some};
 ghost use Rattle.sessions.specs.Faults.{number_of, fault_text};
-ghost use Rattle.sessions.specs.declared.faults.SessionFault.TheVariants.{TooFewVariables};
+ghost use Rattle.sessions.specs.declared.faults.SessionFault.TheVariants.{TooFewVariables, SmallOutput};
 
 use chooser::Fault;
+use models::writing::Short;
 use std::error::Error;
 use std::fmt;
 
@@ -76,5 +77,13 @@ impl From<Fault> for SessionFault {
 
     fn from(fault: Fault) -> SessionFault {
         SessionFault::TooFewVariables(fault)
+    }
+}
+
+impl From<Short> for SessionFault {
+    ghost from_gives = { λ _ e. e ≡ SmallOutput };
+
+    fn from(_short: Short) -> SessionFault {
+        SessionFault::SmallOutput
     }
 }

@@ -5,6 +5,7 @@ mod beginning;
 pub mod faults;
 mod force;
 mod limits;
+mod modelling;
 mod searching;
 mod seen;
 pub mod session;
