@@ -21,17 +21,12 @@ says_all_kept T T' w [] f = refl
 says_all_kept T T' w (x ∷ xs) f =
     λ i. says_from w x.con (f x first i) && says_all_kept T T' w xs (λ y m. f y (later m)) i
 
-module _ (p : Problem) (T : Table) (R : List Conflict) (count : ℕ) (ways ways' : Way → Bool) (u : Path)
-    (S : Sound p T R count ways) (inside : u ∈ paths T) (unopened : opening T u ≡ none)
-    (adds : (w : Way) → ways' w ≡ (ways w && all_met w (opening_clauses count (width p u)))) where
+module _ (p : Problem) (T : Table) (count : ℕ) (u : Path) (tab : Tabled p T count) (inside : u ∈ paths T) (unopened : opening T u ≡ none) where
   abbrev T' : Table
   T' = opened_at p u count T
 
   abbrev cs : List (List ℕ)
   cs = cases_at p u
-
-  tab : Tabled p T count
-  tab = S.tabled
 
   new_at : opening T' u ≡ some count
   new_at = opening_join (marked u count T) (kids_of u 0 cs) (kids_of_unopened u 0 cs) u ∙ marked_at u count T inside
@@ -137,8 +132,9 @@ module _ (p : Problem) (T : Table) (R : List Conflict) (count : ℕ) (ways ways'
           absurd (omega (arith, k, z, l, s))
       go (inr q) (inr r) = tab.disjoint v x a b c d q r l m s
 
-  new_tabled : Tabled p T' (count + width p u)
-  new_tabled =
+  -- What holds of tables is kept, whatever the chooser allows.
+  pub opening_tabled : Tabled p T' (count + width p u)
+  opening_tabled =
       record {
         distinct = new_distinct;
         switches = (let s = tab.switches in omega (arith, s));
@@ -157,50 +153,52 @@ module _ (p : Problem) (T : Table) (R : List Conflict) (count : ℕ) (ways ways'
           go (inl q) = tab.only_roots k q
           go (inr r) = absurd (root_not_child r.2)
 
-  meets_kept : (w : Way) (k : Conflict) → k ∈ R → meets T' w k ≡ meets T w k
-  meets_kept w k m =
-      ap (λ b. w k.of && b)
-      (says_all_kept T T' w k.choices (λ x n. let q = (S.explained k m).opened x n in new_off x.at (other x.at q.0 q.1)))
+  module _ (R : List Conflict) (ways ways' : Way → Bool) (S : Sound p T R count ways)
+      (adds : (w : Way) → ways' w ≡ (ways w && all_met w (opening_clauses count (width p u)))) where
+    meets_kept : (w : Way) (k : Conflict) → k ∈ R → meets T' w k ≡ meets T w k
+    meets_kept w k m =
+        ap (λ b. w k.of && b)
+        (says_all_kept T T' w k.choices (λ x n. let q = (S.explained k m).opened x n in new_off x.at (other x.at q.0 q.1)))
 
-  opening_sound : Sound p T' R (count + width p u) ways'
-  opening_sound =
-      record {
-        tabled = new_tabled;
-        explained = λ k m.
-            let x = S.explained k m in
-            record {
-              is_goal = x.is_goal;
-              under = x.under;
-              because = x.because;
-              judging = x.judging;
-              covers = x.covers;
-              opened = λ y n. let q = x.opened y n in (q.0, kept y.at q.0 q.1, q.2);
-            };
-        allowed = λ w e.
-            let q = and_parts (ways w) _ (sym (adds w) ∙ e) in
-            let fine = S.allowed w q.0 in
-            record {
-              one = λ v a o. one_now w fine.one (clauses_one w count (width p u) q.1) v a (now_opened v a o);
-              no_conflict = λ k m. meets_kept w k m ∙ fine.no_conflict k m;
-            };
-        allows = λ w fine.
-            adds w
-            ∙ and_from _ _
-            (S.allows w
-            (record { one = λ v a o. fine.one v a (kept v a o); no_conflict = λ k m. sym (meets_kept w k m) ∙ fine.no_conflict k m }))
-            (one_clauses w count (width p u) (fine.one u count new_at));
-      }
-    where
-      one_now : (w : Way) → ((v : Path) (a : ℕ) → opening T v ≡ some a → OneCase w a (width p v))
-          → OneCase w count (width p u) → (v : Path) (a : ℕ) → ((v ≡ u) × (a ≡ count)) ⊎ (opening T v ≡ some a)
-          → OneCase w a (width p v)
-      one_now w old new v a (inl q) =
-          subst (λ b. OneCase w b (width p v)) (sym q.1)
-          (subst (λ x. OneCase w count (width p x)) (sym q.0) new)
-      one_now w old new v a (inr o) = old v a o
+    opening_sound : Sound p T' R (count + width p u) ways'
+    opening_sound =
+        record {
+          tabled = opening_tabled;
+          explained = λ k m.
+              let x = S.explained k m in
+              record {
+                is_goal = x.is_goal;
+                under = x.under;
+                because = x.because;
+                judging = x.judging;
+                covers = x.covers;
+                opened = λ y n. let q = x.opened y n in (q.0, kept y.at q.0 q.1, q.2);
+              };
+          allowed = λ w e.
+              let q = and_parts (ways w) _ (sym (adds w) ∙ e) in
+              let fine = S.allowed w q.0 in
+              record {
+                one = λ v a o. one_now w fine.one (clauses_one w count (width p u) q.1) v a (now_opened v a o);
+                no_conflict = λ k m. meets_kept w k m ∙ fine.no_conflict k m;
+              };
+          allows = λ w fine.
+              adds w
+              ∙ and_from _ _
+              (S.allows w
+              (record { one = λ v a o. fine.one v a (kept v a o); no_conflict = λ k m. sym (meets_kept w k m) ∙ fine.no_conflict k m }))
+              (one_clauses w count (width p u) (fine.one u count new_at));
+        }
+      where
+        one_now : (w : Way) → ((v : Path) (a : ℕ) → opening T v ≡ some a → OneCase w a (width p v))
+            → OneCase w count (width p u) → (v : Path) (a : ℕ) → ((v ≡ u) × (a ≡ count)) ⊎ (opening T v ≡ some a)
+            → OneCase w a (width p v)
+        one_now w old new v a (inl q) =
+            subst (λ b. OneCase w b (width p v)) (sym q.1)
+            (subst (λ x. OneCase w count (width p x)) (sym q.0) new)
+        one_now w old new v a (inr o) = old v a o
 
 pub opening_keeps : OpeningKeeps
-opening_keeps p T R count ways ways' u S m e adds = opening_sound p T R count ways ways' u S m e adds
+opening_keeps p T R count ways ways' u S m e adds = opening_sound p T count u S.tabled m e R ways ways' S adds
 
 pub recording_keeps : RecordingKeeps
 recording_keeps p T R count ways ways' k S x adds =

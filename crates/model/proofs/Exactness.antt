@@ -16,7 +16,7 @@ use Rattle.model.proofs.Bytes.{was_ok, cond_ok, was_there, is_there, is_right, a
 ok_is : {A : Type 0} (x y : A) → ◌≡◌ {A = Result A Fault} (Ok x) (Ok y) → x ≡ y
 ok_is x y h = cc
 
-past_part : (bs : List ℕ) (p : ℕ) (xs ys : List ℕ) → drop p bs ≡ xs ++ ys → drop (p + length xs) bs ≡ ys
+pub past_part : (bs : List ℕ) (p : ℕ) (xs ys : List ℕ) → drop p bs ≡ xs ++ ys → drop (p + length xs) bs ≡ ys
 past_part bs p xs ys e = sym (drop-drop (length xs) p bs) ∙ ap (drop (length xs)) e ∙ drop_at xs ys (length xs) refl
 
 module _ (sig : Sig) (bs : List ℕ) where
@@ -54,7 +54,7 @@ module _ (sig : Sig) (bs : List ℕ) where
       by_top (value_end n sig bs mark) mark t p q w.0 (value_sound n mark) (top_sound sig bs mark t p w.0 w.1) w.2
 
   mutual
-    value_complete : (v : Partial) (n mark t p : ℕ) (rest : List ℕ) → OfType sig t v → drop p bs ≡ written sig t v ++ rest → length bs ≤ p + n
+    pub value_complete : (v : Partial) (n mark t p : ℕ) (rest : List ℕ) → OfType sig t v → drop p bs ≡ written sig t v ++ rest → length bs ≤ p + n
         → value_end n sig bs mark t p ≡ Ok (p + length (written sig t v))
     value_complete open_part n mark t p rest typed h deep =
         sym (value_open n sig bs mark t p deep (sym (top_open sig bs mark t p rest h)))
@@ -101,7 +101,7 @@ module _ (sig : Sig) (bs : List ℕ) where
             ∙ ap (λ x. 0x4D ∷ (0x44 ∷ (x ∷ drop (p + 3) bs))) (eqb-true (get_or bs (p + 2) 0) k c.0),
       )
 
-  start_complete : (k p : ℕ) (rest : List ℕ) → drop p bs ≡ 0x4D ∷ (0x44 ∷ (k ∷ rest)) → (start_of bs k p ≡ Ok (p + 3)) × (drop (p + 3) bs ≡ rest) × (p + 3 ≤ length bs)
+  pub start_complete : (k p : ℕ) (rest : List ℕ) → drop p bs ≡ 0x4D ∷ (0x44 ∷ (k ∷ rest)) → (start_of bs k p ≡ Ok (p + 3)) × (drop (p + 3) bs ≡ rest) × (p + 3 ≤ length bs)
   start_complete k p rest h =
       let a = at_byte bs p 0x4D (0x44 ∷ (k ∷ rest)) h in
       let b = at_byte bs (p + 1) 0x44 (k ∷ rest) a.2 in

@@ -48,7 +48,7 @@ module _ (p : Problem) (T : Table) (count : ℕ) (kids : ℕ → ℕ) (w : Way) 
   entry_opening : (i : ℕ) → i < length T → opening T (entry_at T i).path ≡ (entry_at T i).first
   entry_opening i l = opening_entry T (entry_at T i) tab.distinct (entry_in T i l)
 
-  own_case : (i : ℕ) → i < length T → decided p T w (at T i) ≡ case_in p w (entry_at T i)
+  pub own_case : (i : ℕ) → i < length T → decided p T w (at T i) ≡ case_in p w (entry_at T i)
   own_case i l =
       ap (decided p T w) (at_entry T i) ∙ ap (case_of w (width p (entry_at T i).path)) (entry_opening i l)
 
@@ -60,14 +60,14 @@ module _ (p : Problem) (T : Table) (count : ℕ) (kids : ℕ → ℕ) (w : Way) 
       go (inr l) = absurd (none-ne-some c (sym (ap (case_in p w) (beyond T i l)) ∙ e))
 
   -- what a decided place has as children
-  kid_at : (i c j : ℕ) → case_in p w (entry_at T i) ≡ some c → j < arity p (at T i) c
+  pub kid_at : (i c j : ℕ) → case_in p w (entry_at T i) ≡ some c → j < arity p (at T i) c
       → (kids i + (offset (cases_at p (at T i)) c + j) < length T) × (at T (kids i + (offset (cases_at p (at T i)) c + j)) ≡ child (at T i) c j)
   kid_at i c j e l =
       let inside = chosen_inside i c e in
       let q = decided_says p T w (at T i) c (own_case i inside ∙ e) in
       pl.kids_placed i q.0 c j inside q.1 q.2 l
 
-  in_range : {i : ℕ} → Asked p K i → i < length T
+  pub in_range : {i : ℕ} → Asked p K i → i < length T
   in_range (asked_root {k = k} l) = (pl.roots_first k l).0
   in_range {i} (asked_kid {u = u} {c = c} a e m) =
       let r = from_is (kids u + offset (cases_at p (at T u)) c) (arity p (at T u) c) i m in

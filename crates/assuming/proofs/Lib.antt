@@ -1,0 +1,4 @@
+pub mod Written
+pub mod Asked
+pub mod Denied
+pub mod Assumes

@@ -1,0 +1,3 @@
+pub mod Assumes
+pub mod Written
+pub mod Denied

@@ -1,0 +1,5 @@
+pub mod Counting
+pub mod Offsets
+pub mod Rows
+pub mod Alike
+pub mod Children

@@ -1,0 +1,24 @@
+use Rattle.std.proofs.Common.{length, refl, ap, arith}
+use Rattle.judge.proofs.Limits.{lawful, arguments_few}
+use Rattle.cases.proofs.decide.case_with.Goals as goal
+
+pub overflow_cast-result : goal.overflow_cast-result
+overflow_cast-result c =
+    let few = arguments_few (lawful c.args.problem.now) c.args.ty c.args.constructor in
+    let same = ap length c.arguments-arguments.ensures in
+    omega (arith, few, same)
+
+pub invariant_of-result : goal.invariant_of-result
+invariant_of-result c =
+    let few = arguments_few (lawful c.args.problem.now) c.args.ty c.args.constructor in
+    let same = ap length c.arguments-arguments.ensures in
+    record { few = omega (arith, few, same) }
+
+pub returns : goal.returns
+returns c =
+    record {
+      constructor = refl;
+      count = ap length c.arguments-arguments.ensures;
+      kids_at = omega (arith, c.saturating_add.ensures, c.children_before-before.ensures);
+      low = omega arith;
+    }

@@ -1,0 +1,9 @@
+pub mod Rows
+pub mod Existence
+pub mod Values
+pub mod Walking
+pub mod Counting
+pub mod Bound
+pub mod Recording
+pub mod Sites
+pub mod Replays

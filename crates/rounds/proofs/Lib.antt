@@ -1,0 +1,4 @@
+pub mod Turning
+pub mod Settled
+pub mod Answering
+pub mod Going

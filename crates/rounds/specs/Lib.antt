@@ -1,0 +1,5 @@
+pub mod Run
+pub mod Turns
+pub mod Steps
+pub mod Going
+pub mod Lent

@@ -1,0 +1,39 @@
+// What a search is passed: its limits, and memory that is lent to it.
+ghost use Rattle.std.specs.Prelude.{◌≡◌, ◌≤◌, length, OnOk};
+ghost use Rattle.sessions.specs.Faults.{told};
+ghost use Rattle.sessions.specs.Limits.{limits_refusal, suffice};
+
+use crate::faults::SessionFault;
+use chooser::Chooser;
+use rounds::search::{Lent, Limits};
+
+const MOST_DEPTH: usize = 64;
+
+const MOST_ROUNDS: usize = 65_535;
+
+const MOST_STEPS: usize = 4_096;
+
+// The most places of the working memory that the judge takes for a step.
+const PLACES_EACH: usize = 6;
+
+pub(crate) fn check_limits(limits: Limits) -> Result<(), SessionFault>
+    ensures refusal { told result ≡ limits_refusal limits.depth limits.rounds limits.steps }
+    ensures few { OnOk result (limits.steps ≤ 4096) }
+{
+    if !matches!(limits.depth, 1..=MOST_DEPTH) {
+        return Err(SessionFault::BadDepth);
+    }
+    if !matches!(limits.rounds, 1..=MOST_ROUNDS) || !matches!(limits.steps, 1..=MOST_STEPS) {
+        return Err(SessionFault::BadLimits);
+    }
+    Ok(())
+}
+
+// Whether there are places for so many steps, and a byte and a literal for each variable that such a chooser can have.
+pub(crate) fn has_room<C: Chooser>(steps: usize, way: &[u8], lent: &Lent<'_>) -> bool
+    requires { steps ≤ 4096 }
+    ensures { result ≡ suffice C.Chooser.most steps (length lent.now.places.now) (length way.now) (length lent.now.literals.now) }
+{
+    let most = usize::from(C::variables_most());
+    lent.places.len() >= PLACES_EACH * steps && way.len() >= most && lent.literals.len() >= most
+}
