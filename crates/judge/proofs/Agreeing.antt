@@ -23,11 +23,13 @@ use Rattle.judge.specs.Means.{HeadAs, Agrees, VerdictAs, Concurs}
 use Rattle.judge.proofs.Sets.{adds_append}
 
 module _ (p : Problem) (K : Unknowns ℕ) where
-  pub opens : (d s : ℕ) (h : Held ℕ) → 0 < d → 0 < s → headed p K (judges p K (d - 1)) h (s - 1) ≡ (judges p K d).head h s
+  pub opens : (d s n : ℕ) (h : Held ℕ) → 0 < d → s ≡ n + 1 → headed p K (judges p K (d - 1)) h n ≡ (judges p K d).head h s
   unfolding judges
-  opens zero s h q r = absurd (omega arith)
-  opens (suc d) zero h q r = absurd (omega arith)
-  opens (suc d) (suc s) h q r = simp sub-one
+  opens zero s n h q e = absurd (omega arith)
+  opens (suc d) zero n h q e = absurd (omega arith)
+  opens (suc d) (suc s) n h q e =
+      let is : n ≡ s = omega (arith, e) in
+      ap (λ m. headed p K (judges p K (suc d - 1)) h m) is ∙ simp sub-one
 
   pub shut : (d s : ℕ) (h : Held ℕ) → s ≡ 0 → (judges p K d).head h s ≡ none
   unfolding judges
@@ -35,11 +37,13 @@ module _ (p : Problem) (K : Unknowns ℕ) where
   shut (suc d) zero h z = refl
   shut (suc d) (suc s) h z = absurd (omega arith)
 
-  pub opens_comparing : (d s : ℕ) (h k : Held ℕ) → 0 < d → 0 < s → compared (judges p K (d - 1)) h k (s - 1) ≡ (judges p K d).comparing h k s
+  pub opens_comparing : (d s n : ℕ) (h k : Held ℕ) → 0 < d → s ≡ n + 1 → compared (judges p K (d - 1)) h k n ≡ (judges p K d).comparing h k s
   unfolding judges
-  opens_comparing zero s h k q r = absurd (omega arith)
-  opens_comparing (suc d) zero h k q r = absurd (omega arith)
-  opens_comparing (suc d) (suc s) h k q r = simp sub-one
+  opens_comparing zero s n h k q e = absurd (omega arith)
+  opens_comparing (suc d) zero n h k q e = absurd (omega arith)
+  opens_comparing (suc d) (suc s) n h k q e =
+      let is : n ≡ s = omega (arith, e) in
+      ap (λ m. compared (judges p K (suc d - 1)) h k m) is ∙ simp sub-one
 
   pub shut_comparing : (d s : ℕ) (h k : Held ℕ) → s ≡ 0 → (judges p K d).comparing h k s ≡ none
   unfolding judges
@@ -62,7 +66,7 @@ module _ (R : ℕ → Term → Type 0) (m : List Place) (top : ℕ) where
   stands_term x p e (free u) q s = absurd (subst (λ (y : Code). Stands R m top y (free u)) q s)
   stands_term x p e (hold t ρ) q s = let r = subst (λ (y : Code). Stands R m top y (hold t ρ)) q s in (t, ρ, refl, r.0, r.1)
 
-pub stands_is : (R : ℕ → Term → Type 0) (m : List Place) (top : ℕ) (h : Held ℕ) (x y : Code) → x ≡ y → Stands R m top y h → Stands R m top x h
+stands_is : (R : ℕ → Term → Type 0) (m : List Place) (top : ℕ) (h : Held ℕ) (x y : Code) → x ≡ y → Stands R m top y h → Stands R m top x h
 stands_is R m top h x y e s = subst (λ (z : Code). Stands R m top z h) (sym e) s
 
 pub by : {x : Text} {l : Left} {a b : List ℕ} {r : Option CodeHead} {o q : Maybe (Head ℕ × ℕ)} → o ≡ q → Agrees x l a b r o → Agrees x l a b r q
@@ -158,13 +162,14 @@ module _ (R : ℕ → Term → Type 0) (A : Asks ℕ) (m : List Place) (top : �
   pairs_none i j count s (x h∷ xs) h[] stop le long rx ry = refl
   pairs_none i j count s (x h∷ xs) (y h∷ ys) stop le long rx ry = absurd (stop (omega arith) (omega arith) (omega arith))
 
-  pub pairs_more : (i j count s : ℕ) (xs ys : Helds ℕ) (l : Left) (a b : List ℕ) (r : Option CodeVerdict) → 0 < count
+  pub pairs_more : (i j count s : ℕ) (xs ys : Helds ℕ) (l : Left) (a b : List ℕ) (r : Option CodeVerdict) (v w : Code)
+      → v ≡ (get_or m i no_place).held → w ≡ (get_or m j no_place).held → 0 < count
       → count ≡ min (hlength xs) (hlength ys) → Row R m top i xs → Row R m top j ys
-      → ((h k : Held ℕ) (hs ks : Helds ℕ) → Stands R m top (get_or m i no_place).held h → Stands R m top (get_or m j no_place).held k
+      → ((h k : Held ℕ) (hs ks : Helds ℕ) → Stands R m top v h → Stands R m top w k
       → count - 1 ≡ min (hlength hs) (hlength ks) → Row R m top (i + 1) hs → Row R m top (j + 1) ks
       → Concurs l a b r (go_on (after_pair (pairs A hs ks)) (A.comparing h k s)))
       → Concurs l a b r (pairs A xs ys s)
-  pairs_more i j count s h[] ys l a b r pos long rx ry go = absurd (omega arith)
-  pairs_more i j count s (x h∷ xs) h[] l a b r pos long rx ry go = absurd (omega arith)
-  pairs_more i j count s (x h∷ xs) (y h∷ ys) l a b r pos long rx ry go =
-      go x y xs ys rx.1 ry.1 (omega arith) rx.2 ry.2
+  pairs_more i j count s h[] ys l a b r v w p q pos long rx ry go = absurd (omega arith)
+  pairs_more i j count s (x h∷ xs) h[] l a b r v w p q pos long rx ry go = absurd (omega arith)
+  pairs_more i j count s (x h∷ xs) (y h∷ ys) l a b r v w p q pos long rx ry go =
+      go x y xs ys (stands_is R m top x v _ p rx.1) (stands_is R m top y w _ q ry.1) (omega arith) rx.2 ry.2

@@ -21,10 +21,7 @@ impl<D: Decides> Judge<'_, D> {
         ensures few { Few result }
         ensures heads { Heads (text_of self.now.problem.now) (D.unknowns self.now.decider.now) left.old because.old.words left.new because.new.words at result }
     {
-        if left.steps == 0 {
-            return None; // no step for a head
-        }
-        left.steps -= 1;
+        left.steps = left.steps.checked_sub(1)?; // a step for a head
         match at {
             Held::Missing => Some(Head::FALSE),
             Held::Unknown(unknown) => Some(self.decided(left, because, unknown)),
@@ -60,16 +57,7 @@ impl<D: Decides> Judge<'_, D> {
                 arity,
                 arguments,
                 ..
-            } => {
-                let start = left.memory.top;
-                let count = arity.min(6);
-                self.hold_terms(&mut left.memory, arguments, count, env, Link::NONE);
-                Some(Head::Is {
-                    start,
-                    constructor,
-                    count,
-                })
-            }
+            } => Some(self.constructed(left, constructor, arity, arguments, env)),
             View::Call {
                 function,
                 arity,
@@ -175,10 +163,7 @@ impl<D: Decides> Judge<'_, D> {
         ensures kept { Kept 0 left.old left.new }
         ensures compares { Compares (text_of self.now.problem.now) (D.unknowns self.now.decider.now) left.old because.old.words left.new because.new.words a b result }
     {
-        if left.steps == 0 {
-            return None; // no step for a comparing
-        }
-        left.steps -= 1;
+        left.steps = left.steps.checked_sub(1)?; // a step for a comparing
         self.compared(left, because, a, b)
     }
 

@@ -3,7 +3,10 @@ ghost use Rattle.std.specs.Prelude.{◌≡◌};
 
 use held::memory::Memory;
 
-// The steps that are left, and the memory. Each step pays for six places.
+// The places that each step pays for: the arguments of a term.
+pub const STEP_PLACES: usize = 6;
+
+// The steps that are left, and the memory.
 // Kept as it is: that the places suffice for the steps stands in the contracts of the judge and not in a ghost field,
 // which the check does not cover beside a `&mut`.
 #[derive(Drop)]
