@@ -23,13 +23,11 @@ use Rattle.judge.specs.Means.{HeadAs, Agrees, VerdictAs, Concurs}
 use Rattle.judge.proofs.Sets.{adds_append}
 
 module _ (p : Problem) (K : Unknowns ℕ) where
-  pub opens : (d s n : ℕ) (h : Held ℕ) → 0 < d → s ≡ n + 1 → headed p K (judges p K (d - 1)) h n ≡ (judges p K d).head h s
+  pub opens : (d s : ℕ) (h : Held ℕ) → 0 < d → 0 < s → headed p K (judges p K (d - 1)) h (s - 1) ≡ (judges p K d).head h s
   unfolding judges
-  opens zero s n h q e = absurd (omega arith)
-  opens (suc d) zero n h q e = absurd (omega arith)
-  opens (suc d) (suc s) n h q e =
-      let is : n ≡ s = omega (arith, e) in
-      ap (λ m. headed p K (judges p K (suc d - 1)) h m) is ∙ simp sub-one
+  opens zero s h q r = absurd (omega arith)
+  opens (suc d) zero h q r = absurd (omega arith)
+  opens (suc d) (suc s) h q r = simp sub-one
 
   pub shut : (d s : ℕ) (h : Held ℕ) → s ≡ 0 → (judges p K d).head h s ≡ none
   unfolding judges
@@ -37,13 +35,11 @@ module _ (p : Problem) (K : Unknowns ℕ) where
   shut (suc d) zero h z = refl
   shut (suc d) (suc s) h z = absurd (omega arith)
 
-  pub opens_comparing : (d s n : ℕ) (h k : Held ℕ) → 0 < d → s ≡ n + 1 → compared (judges p K (d - 1)) h k n ≡ (judges p K d).comparing h k s
+  pub opens_comparing : (d s : ℕ) (h k : Held ℕ) → 0 < d → 0 < s → compared (judges p K (d - 1)) h k (s - 1) ≡ (judges p K d).comparing h k s
   unfolding judges
-  opens_comparing zero s n h k q e = absurd (omega arith)
-  opens_comparing (suc d) zero n h k q e = absurd (omega arith)
-  opens_comparing (suc d) (suc s) n h k q e =
-      let is : n ≡ s = omega (arith, e) in
-      ap (λ m. compared (judges p K (suc d - 1)) h k m) is ∙ simp sub-one
+  opens_comparing zero s h k q r = absurd (omega arith)
+  opens_comparing (suc d) zero h k q r = absurd (omega arith)
+  opens_comparing (suc d) (suc s) h k q r = simp sub-one
 
   pub shut_comparing : (d s : ℕ) (h k : Held ℕ) → s ≡ 0 → (judges p K d).comparing h k s ≡ none
   unfolding judges

@@ -102,19 +102,19 @@ arguments-returns-in_ok-rest-in-Wait-clause-pairs g t c d xs ys le long rx ry =
     (c.past_wait.ensures c.arguments-in-Wait.new.left c.args.because.now.words c.arguments-in-Wait.new.because.words _
     (c.in_ok-rest-in-Wait.ensures.pairs d hs ks (omega arith) less (row_kept (Reads x) c.compare.ensures.kept (c.args.xs + 1) hs rhs) (row_kept (Reads x) c.compare.ensures.kept (c.args.ys + 1) ks rks))))
 
-pub compare-returns-in_err-left-clause-compares : goal.compare-returns-in_err-left-clause-compares
-compare-returns-in_err-left-clause-compares g t c d h k le sh sk =
+pub compare-returns-then-left-eq0-clause-compares : goal.compare-returns-then-left-eq0-clause-compares
+compare-returns-then-left-eq0-clause-compares g t c d h k le sh sk =
     let x : Text = text_of c.args.self.now.problem.now in
     let K : Unknowns ℕ = g.D.Decides.unknowns c.args.self.now.decider.now in
     let l = c.args.left.now in
-    lost_verdict c.from_residual.ensures (shut_comparing x.problem K d l.steps h k (omega arith))
+    record { means = shut_comparing x.problem K d l.steps h k (omega arith) }
 
 pub compare-returns-clause-compares : goal.compare-returns-clause-compares
 compare-returns-clause-compares g t c d h k le sh sk =
     let x : Text = text_of c.args.self.now.problem.now in
     let K : Unknowns ℕ = g.D.Decides.unknowns c.args.self.now.decider.now in
     let l = c.args.left.now in
-    by_verdict (opens_comparing x.problem K d l.steps c.in_ok-left.field-0 h k (omega arith) (omega arith)) (c.compared.ensures.compared (d - 1) h k (omega arith) sh sk)
+    by_verdict (opens_comparing x.problem K d l.steps h k (omega arith) (omega arith)) (c.compared.ensures.compared (d - 1) h k (omega arith) sh sk)
 
 pub compared-returns-in_err-second-clause-compared : goal.compared-returns-in_err-second-clause-compared
 compared-returns-in_err-second-clause-compared g t c d h k le sh sk =
@@ -174,12 +174,12 @@ compared-returns-in-Waits-default-clause-compared g t c d h k le sh sk =
       means = ap (go_on (after_left A k)) v ∙ still_waits c.in-Waits-default.unknown c.in_ok-second.second (c.in_ok-second.ensures.heads d k (omega arith) (stands_kept (Reads x) c.head.ensures.kept c.args.b k sk));
     }
 
-pub head-returns-in_err-left-clause-heads : goal.head-returns-in_err-left-clause-heads
-head-returns-in_err-left-clause-heads g t c d h le s =
+pub head-returns-then-left-eq0-clause-heads : goal.head-returns-then-left-eq0-clause-heads
+head-returns-then-left-eq0-clause-heads g t c d h le s =
     let x : Text = text_of c.args.self.now.problem.now in
     let K : Unknowns ℕ = g.D.Decides.unknowns c.args.self.now.decider.now in
     let l = c.args.left.now in
-    lost c.from_residual.ensures (shut x.problem K d l.steps h (omega arith))
+    record { means = shut x.problem K d l.steps h (omega arith) }
 
 pub head-returns-in-Missing-clause-heads : goal.head-returns-in-Missing-clause-heads
 head-returns-in-Missing-clause-heads g t c d h le s =
@@ -187,7 +187,7 @@ head-returns-in-Missing-clause-heads g t c d h le s =
     let K : Unknowns ℕ = g.D.Decides.unknowns c.args.self.now.decider.now in
     let l = c.args.left.now in
     let q = stands_missing (Reads x) l.memory.places.now l.memory.top c.args.at h c.in-Missing.is s in
-    record { means = (h[], [], sym (opens x.problem K d l.steps c.in_ok-left.field-0 h (omega arith) (omega arith)) ∙ ap (λ (k : Held ℕ). headed x.problem K (judges x.problem K (d - 1)) k c.in_ok-left.field-0) q.1, refl, tt, adds_none) }
+    record { means = (h[], [], sym (opens x.problem K d l.steps h (omega arith) (omega arith)) ∙ ap (λ (k : Held ℕ). headed x.problem K (judges x.problem K (d - 1)) k (l.steps - 1)) q.1, refl, tt, adds_none) }
 
 pub head-returns-in-Unknown-clause-heads : goal.head-returns-in-Unknown-clause-heads
 head-returns-in-Unknown-clause-heads g t c d h le s =
@@ -195,7 +195,7 @@ head-returns-in-Unknown-clause-heads g t c d h le s =
     let K : Unknowns ℕ = g.D.Decides.unknowns c.args.self.now.decider.now in
     let l = c.args.left.now in
     let q = stands_unknown (Reads x) l.memory.places.now l.memory.top c.args.at c.in-Unknown.unknown h c.in-Unknown.is s in
-    by (ap (λ (k : Held ℕ). headed x.problem K (judges x.problem K (d - 1)) k c.in_ok-left.field-0) (sym q) ∙ opens x.problem K d l.steps c.in_ok-left.field-0 h (omega arith) (omega arith)) (c.decided.ensures.agrees x)
+    by (ap (λ (k : Held ℕ). headed x.problem K (judges x.problem K (d - 1)) k (l.steps - 1)) (sym q) ∙ opens x.problem K d l.steps h (omega arith) (omega arith)) (c.decided.ensures.agrees x)
 
 pub head-returns-in-Term-clause-heads : goal.head-returns-in-Term-clause-heads
 head-returns-in-Term-clause-heads g t c d h le s =
@@ -203,7 +203,7 @@ head-returns-in-Term-clause-heads g t c d h le s =
     let K : Unknowns ℕ = g.D.Decides.unknowns c.args.self.now.decider.now in
     let l = c.args.left.now in
     let q = stands_term (Reads x) l.memory.places.now l.memory.top c.args.at c.in-Term.place c.in-Term.env h c.in-Term.is s in
-    by (ap (λ (k : Held ℕ). headed x.problem K (judges x.problem K (d - 1)) k c.in_ok-left.field-0) (sym q.2) ∙ opens x.problem K d l.steps c.in_ok-left.field-0 h (omega arith) (omega arith)) (c.head_of_term.ensures.heads (d - 1) q.0 q.1 (omega arith) q.3 q.4)
+    by (ap (λ (k : Held ℕ). headed x.problem K (judges x.problem K (d - 1)) k (l.steps - 1)) (sym q.2) ∙ opens x.problem K d l.steps h (omega arith) (omega arith)) (c.head_of_term.ensures.heads (d - 1) q.0 q.1 (omega arith) q.3 q.4)
 
 pub head_of_and-returns-then-is_false-clause-heads : goal.head_of_and-returns-then-is_false-clause-heads
 head_of_and-returns-then-is_false-clause-heads g fuel c d t u ρ le rt ru b =
