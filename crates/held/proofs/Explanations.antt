@@ -1,6 +1,9 @@
 -- How words of bits represent sets: the bits of an `or`, of a power of two, and of eight words.
-use Rattle.std.proofs.Common.{◌≡◌, ℕ, zero, suc, ◌+◌, ◌-◌, ◌/◌, ◌%◌, ◌^◌, ◌<◌, ◌≤◌, false, ◌||◌, eqb, ◌≢◌, List, [], ◌∷◌, length, get_or, set, sym, refl, ap, ◌∙◌, inl, inr, arith, get_or-set_other, get_or-set_same, pow_pos, pow-add}
+use Rattle.std.proofs.Common.{◌≡◌, ℕ, zero, suc, ◌+◌, ◌-◌, ◌/◌, ◌%◌, ◌^◌, ◌<◌, ◌≤◌, false, ◌||◌, eqb, ◌≢◌, List, [], ◌∷◌, length, get_or, set, sym, refl, ap, ◌∙◌, subst, ⊎_elim, inl, inr, arith, get_or-set_other, get_or-set_same, pow_pos, pow-add}
 use mathlib.Core.Bool.{or-false}
+use denote.Param.Members.{Mut}
+use Rattle.std.specs.Fn.{Called}
+use Rattle.std.specs.Array.{IsFromFnResultFrom}
 use native.Mathlib.Nat.{div-eq_of_lt}
 use lib.Bits.{bit_or, or_shr, or_mod, shifted_even}
 use lib.Pow.{pow-lt, shl-shr}
@@ -81,3 +84,17 @@ contains_joined c a b p q r at u =
       | inl lt ↦ ap (λ n. bit n (u % 64)) (at (u / 64) lt) ∙ bit_or_lem (get_or a (u / 64) 0) (get_or b (u / 64) 0) (u % 64)
       | inr ge ↦ past c u p ge ∙ sym (ap (λ x. x || contains b u) (past a u q ge) ∙ past b u r ge)
     ]
+
+-- what the calls of a closure at each index made
+module _ {F : Type 0} (g : Mut F (ℕ × Unit {0}) ℕ) (f : F) (word : ℕ → ℕ) (gives : (i y : ℕ) (q : F) → i < 8 → Called g f (i, tt) y q → (y ≡ word i) × (q ≡ f)) where
+  called_from : (n i : ℕ) (ys : List ℕ) → i + n ≤ 8 → IsFromFnResultFrom g f ys i n → (k : ℕ) → i ≤ k → k < i + n → get_or ys k 0 ≡ word k
+  called_from zero i ys fits made k le lt = absurd (omega (arith, le, lt))
+  called_from (suc n) i ys fits made k le lt =
+      let now = gives i made.1 made.0 (omega (arith, fits)) made.3 in
+      ⊎_elim
+      (λ e. ap (λ j. get_or ys j 0) e ∙ made.2.1 0 ∙ now.0 ∙ ap word (sym e))
+      (λ ne. called_from n (i + 1) ys (omega (arith, fits)) (subst (λ p. IsFromFnResultFrom g p ys (i + 1) n) now.1 made.4) k (omega (arith, le, ne)) (omega (arith, lt)))
+      (cases_eq k i)
+
+  pub called_each : (ys : List ℕ) → IsFromFnResultFrom g f ys 0 8 → (k : ℕ) → k < 8 → get_or ys k 0 ≡ word k
+  called_each ys made k few = called_from 8 0 ys (omega arith) made k (omega arith) few

@@ -2,6 +2,8 @@
 ghost use Rattle.std.specs.Prelude.{◌≡◌, ℕ, ◌<◌, false, ◌||◌, [], ◌∷◌, length};
 ghost use Rattle.held.specs.Explanations.{contains, Adds};
 
+use std::array;
+
 // An unknown is in the set if the bit of its number is 1.
 #[derive(Clone, Copy)]
 pub struct Explanation {
@@ -32,6 +34,7 @@ impl Explanation {
         ensures { Adds self.old.words self.new.words (unknown ∷ []) }
     {
         let word = (unknown / 64) as usize;
+        // Kept as it is: tested and then indexed, since the check knows nothing of an array's elements after `get_mut`.
         if word < self.words.len() {
             self.words[word] |= 1 << (unknown % 64);
         }
@@ -41,11 +44,7 @@ impl Explanation {
     pub fn join(&mut self, other: &Explanation)
         ensures { (u : ℕ) → contains self.new.words u ≡ (contains self.old.words u || contains other.now.words u) }
     {
-        let mut words = self.words;
-        // Kept as it is: by index; with `array::from_fn` the proof didn't close, on that each call finds the captured words as they were.
-        for (index, word) in other.words.iter().enumerate() {
-            words[index] |= *word;
-        }
-        self.words = words;
+        let mine = self.words;
+        self.words = array::from_fn(|word| mine[word] | other.words[word]);
     }
 }

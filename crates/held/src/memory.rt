@@ -29,10 +29,10 @@ impl<'a> Memory<'a> {
     pub fn linked(&self, link: Link) -> Place
         ensures { result ≡ place_at self.now.places.now link }
     {
-        match link.index() {
-            Some(index) if index < self.places.len() => self.places[index],
-            _ => Place::BLANK,
-        }
+        link.index()
+            .and_then(|index| self.places.get(index))
+            .copied()
+            .unwrap_or(Place::BLANK)
     }
 
     // The argument that stands at a place; where there is no such place, none that a typed term comes to.

@@ -62,7 +62,7 @@ module _ (R : ℕ → Term → Type 0) (m : List Place) (top : ℕ) where
   stands_term x p e (free u) q s = absurd (subst (λ (y : Code). Stands R m top y (free u)) q s)
   stands_term x p e (hold t ρ) q s = let r = subst (λ (y : Code). Stands R m top y (hold t ρ)) q s in (t, ρ, refl, r.0, r.1)
 
-pub stands_is : (R : ℕ → Term → Type 0) (m : List Place) (top : ℕ) (h : Held ℕ) (x y : Code) → x ≡ y → Stands R m top y h → Stands R m top x h
+stands_is : (R : ℕ → Term → Type 0) (m : List Place) (top : ℕ) (h : Held ℕ) (x y : Code) → x ≡ y → Stands R m top y h → Stands R m top x h
 stands_is R m top h x y e s = subst (λ (z : Code). Stands R m top z h) (sym e) s
 
 pub by : {x : Text} {l : Left} {a b : List ℕ} {r : Option CodeHead} {o q : Maybe (Head ℕ × ℕ)} → o ≡ q → Agrees x l a b r o → Agrees x l a b r q
@@ -158,13 +158,14 @@ module _ (R : ℕ → Term → Type 0) (A : Asks ℕ) (m : List Place) (top : �
   pairs_none i j count s (x h∷ xs) h[] stop le long rx ry = refl
   pairs_none i j count s (x h∷ xs) (y h∷ ys) stop le long rx ry = absurd (stop (omega arith) (omega arith) (omega arith))
 
-  pub pairs_more : (i j count s : ℕ) (xs ys : Helds ℕ) (l : Left) (a b : List ℕ) (r : Option CodeVerdict) → 0 < count
+  pub pairs_more : (i j count s : ℕ) (xs ys : Helds ℕ) (l : Left) (a b : List ℕ) (r : Option CodeVerdict) (v w : Code)
+      → v ≡ (get_or m i no_place).held → w ≡ (get_or m j no_place).held → 0 < count
       → count ≡ min (hlength xs) (hlength ys) → Row R m top i xs → Row R m top j ys
-      → ((h k : Held ℕ) (hs ks : Helds ℕ) → Stands R m top (get_or m i no_place).held h → Stands R m top (get_or m j no_place).held k
+      → ((h k : Held ℕ) (hs ks : Helds ℕ) → Stands R m top v h → Stands R m top w k
       → count - 1 ≡ min (hlength hs) (hlength ks) → Row R m top (i + 1) hs → Row R m top (j + 1) ks
       → Concurs l a b r (go_on (after_pair (pairs A hs ks)) (A.comparing h k s)))
       → Concurs l a b r (pairs A xs ys s)
-  pairs_more i j count s h[] ys l a b r pos long rx ry go = absurd (omega arith)
-  pairs_more i j count s (x h∷ xs) h[] l a b r pos long rx ry go = absurd (omega arith)
-  pairs_more i j count s (x h∷ xs) (y h∷ ys) l a b r pos long rx ry go =
-      go x y xs ys rx.1 ry.1 (omega arith) rx.2 ry.2
+  pairs_more i j count s h[] ys l a b r v w p q pos long rx ry go = absurd (omega arith)
+  pairs_more i j count s (x h∷ xs) h[] l a b r v w p q pos long rx ry go = absurd (omega arith)
+  pairs_more i j count s (x h∷ xs) (y h∷ ys) l a b r v w p q pos long rx ry go =
+      go x y xs ys (stands_is R m top x v _ p rx.1) (stands_is R m top y w _ q ry.1) (omega arith) rx.2 ry.2

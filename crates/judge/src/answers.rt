@@ -10,8 +10,11 @@ ghost use Rattle.judge.specs.Outcomes.{outcome};
 
 // The head of a held term: the unknown that it waits on; or a constructor, whose arguments stand in the places from
 // `start` on. The judge answers none for want of steps.
-// Kept as it is: a row of arguments is named by its first place and its length, since the places are lent and grow meanwhile; and
-// that it has at most six stands in contracts (`Few`): each place that makes a head would have to show a ghost field likewise.
+// Kept as it is: an enum of its own and no Result whose error is the unknown, since an `and` and a comparing go on past a
+// side that waits, where `?` would return.
+// Kept as it is: a row of arguments is named by its first place and its length, since the places are lent and grow meanwhile.
+// That it has at most six stands in contracts (`Few`): the check covers no ghost field in an enum's case; a struct of the row,
+// which may have one, would be taken apart again where two rows are compared, which go on with one count.
 #[derive(Clone, Copy)]
 pub enum Head {
     Waits(u16),

@@ -4,12 +4,13 @@ ghost use Rattle.judging.specs.Judging.{Unknowns};
 ghost use Rattle.judge.specs.Decisions.{Chooses};
 
 use arrayvec::ArrayVec;
+use syntax::limits::MOST_ARGUMENTS;
 
 // The constructor that is chosen for an unknown, and the numbers of its children.
 #[derive(Drop)]
 pub struct Choice {
     pub constructor: u8,
-    pub children: ArrayVec<u16, 6>,
+    pub children: ArrayVec<u16, MOST_ARGUMENTS>,
 }
 
 // A table of unknowns, each with a number. The judge knows it only by the unknowns that it stands for.

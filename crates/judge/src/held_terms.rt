@@ -1,11 +1,11 @@
 // Terms of the problem, held in the memory.
-ghost use Rattle.std.specs.Prelude.{◌≡◌, ℕ, ◌+◌, ◌≤◌, List, length, Some, None, Option};
+ghost use Rattle.std.specs.Prelude.{◌≡◌, ℕ, ◌+◌, ◌≤◌, List, [], length, Some, None, Option};
 ghost use Rattle.std.proofs.Math.Option.{some};
 ghost use Rattle.syntax.specs.Terms.{Term, Terms, ◌t∷◌};
 ghost use Rattle.syntax.specs.Typing.{constructors as count_of};
 ghost use Rattle.syntax.specs.Problems.{sig_of};
 ghost use Rattle.judging.specs.Held.{Helds, hold as held, branch, holds, ◌h++◌};
-ghost use Rattle.judging.specs.Judging.{of_unknown};
+ghost use Rattle.judging.specs.Judging.{is, of_unknown};
 ghost use Rattle.held.specs.declared.places.Place.{Place as Spot};
 ghost use Rattle.held.specs.Reading.{Text, Reads};
 ghost use Rattle.held.specs.Standing.{Stands, Env, Row};
@@ -56,6 +56,30 @@ impl<D: Decides> Judge<'_, D> {
             place = self.problem.after(place);
         }
         bound
+    }
+
+    // The head of a constructor's term: its arguments are held as a row.
+    pub(crate) fn constructed(
+        &self,
+        left: &mut Left,
+        constructor: u8,
+        arity: u8,
+        arguments: usize,
+        env: Link,
+    ) -> Head
+        requires { HasRoom 6 left.old }
+        ensures kept { Kept 6 left.old left.new }
+        ensures few { Few (Some result) }
+        ensures agrees { (e : List ℕ) (ts : Terms) (ρ : Helds ℕ) → arity ≡ tlength ts → arity ≤ 6 → ReadsAll (text_of self.now.problem.now) arguments ts → Env (Reads (text_of self.now.problem.now)) left.old.memory.places.now left.old.memory.top env ρ → Agrees (text_of self.now.problem.now) left.new e e (Some result) (some (is constructor (holds ts ρ) [], left.old.steps)) }
+    {
+        let start = left.memory.top;
+        let count = arity.min(6);
+        self.hold_terms(&mut left.memory, arguments, count, env, Link::NONE);
+        Head::Is {
+            start,
+            constructor,
+            count,
+        }
     }
 
     // The head of an unknown: what is chosen for it, which explains it, or it waits.

@@ -7,7 +7,7 @@ use held::memory::Memory;
 use held::places::Place;
 use judge::decides::Decides;
 use judge::judge::Judge;
-use judge::left::Left;
+use judge::left::{Left, STEP_PLACES};
 use judge::verdicts::Judgement;
 use model::deciding::read_model;
 use problem::take::take;
@@ -15,37 +15,36 @@ use replay::replay::MOST_STEPS;
 use std::time::Instant;
 use std::{env, fs, io};
 
-// What the first goal is judged to be, and the steps that were left. There has to be room for all steps. Where there is no goal, a
-// step finds that.
-fn once<D: Decides>(judge: &Judge<'_, D>, places: &mut [Place]) -> (Judgement, usize) {
-    if places.len() < 6 * MOST_STEPS {
-        return (Judgement::Out, MOST_STEPS);
-    }
-    if judge.problem.goals() == 0 {
-        return (Judgement::Out, MOST_STEPS - 1);
+// What the first goal is judged to be, and the steps that were left; none where there is no goal, or no room for all steps.
+fn once<D: Decides>(judge: &Judge<'_, D>, places: &mut [Place]) -> Option<(Judgement, usize)> {
+    if judge.problem.goals() == 0 || places.len() < STEP_PLACES * MOST_STEPS {
+        return None;
     }
     let mut left = Left::new(Memory::new(places), MOST_STEPS);
     let mut because = Explanation::nothing();
     let judged = judge.judge_within(&mut left, &mut because, 0);
-    (judged, left.steps)
+    Some((judged, left.steps))
 }
 
 fn measure<D: Decides>(
     rt: &HostRuntime,
     judge: &Judge<'_, D>,
     places: &mut [Place],
-    times: u32,
+    times: Option<u32>,
 ) -> io::Result<()> {
-    let (judged, left) = once(judge, places);
+    let Some((judged, left)) = once(judge, places) else {
+        return println!(rt; "the problem has no goal");
+    };
     let steps = MOST_STEPS.saturating_sub(left);
-    if times == 0 {
+    let Some(times) = times else {
         return println!(rt; "{judged}, {steps} steps");
-    }
+    };
     let start = Instant::now(rt)?;
     let mut all: u128 = 0;
     for _ in 0..times {
-        let (_, left) = once(judge, places);
-        all = all.saturating_add(MOST_STEPS.saturating_sub(left) as u128);
+        if let Some((_, left)) = once(judge, places) {
+            all = all.saturating_add(MOST_STEPS.saturating_sub(left) as u128);
+        }
     }
     let micros = start.elapsed(rt)?.as_micros();
     if micros == 0 {
@@ -61,14 +60,13 @@ fn main(rt: HostRuntime) -> io::Result<()> {
     let Some(path) = args.next() else {
         return println!(rt; "usage: judge_bench PROBLEM TIMES");
     };
-    let times = match args.next() {
-        Some(text) => text.as_str().parse::<u32>().unwrap_or(1),
-        None => 0,
-    };
+    let times = args
+        .next()
+        .map(|text| text.as_str().parse::<u32>().unwrap_or(1));
     let heap = rt.alloc();
     let bytes = fs::read(&rt, path.as_str())?;
     let problem = take(heap, bytes.as_slice())?;
-    let mut places = vec![in heap; Place::BLANK; 6 * MOST_STEPS]?;
+    let mut places = vec![in heap; Place::BLANK; STEP_PLACES * MOST_STEPS]?;
     match read_model(&problem, &[]) {
         Ok(model) => {
             let judge = Judge {

@@ -51,7 +51,3 @@ module _ (one : ℕ → ℕ → Result ℕ Fault) (types : List ℕ) (next p : �
 
   pub ends_fails : (e : Fault) → next < length types → Err e ≡ one (get_or types next 0) p → Err e ≡ ends one (drop next types) p
   ends_fails e h is = ap (λ (r : Result ℕ Fault). and_then r (ends one (drop (next + 1) types))) is ∙ ap (λ (ts : List ℕ). ends one ts p) (first h)
-
-  pub ends_step : (q : ℕ) → next < length types → Ok q ≡ one (get_or types next 0) p → ends one (drop next types) p ≡ ends one (drop (next + 1) types) q
-  ends_step q h is =
-      sym (ap (λ (r : Result ℕ Fault). and_then r (ends one (drop (next + 1) types))) is ∙ ap (λ (ts : List ℕ). ends one ts p) (first h))

@@ -7,11 +7,11 @@ ghost use Rattle.model.specs.Models.{Placed, Read};
 
 use crate::declares::Declares;
 use crate::model::Model;
-use crate::value_reading::ValueReader;
+use crate::value_reading::{CONSTRUCTOR, ValueReader};
 use arrayvec::ArrayVec;
 use judge::decides::{Choice, Decides};
 use syntax::faults::{Fault, Reason};
-use syntax::limits::MOST_BYTES;
+use syntax::limits::{MOST_ARGUMENTS, MOST_BYTES, MOST_UNKNOWNS};
 
 // Reads model bytes: a value for each unknown of the problem in order, and nothing after.
 pub fn read_model<'a, P: Declares>(problem: &'a P, bytes: &'a [u8]) -> Result<Model<'a, P>, Fault>
@@ -29,7 +29,7 @@ pub fn read_model<'a, P: Declares>(problem: &'a P, bytes: &'a [u8]) -> Result<Mo
 }
 
 // The places of the values.
-fn read_roots<P: Declares>(problem: &P, bytes: &[u8]) -> Result<ArrayVec<u16, 16>, Fault>
+fn read_roots<P: Declares>(problem: &P, bytes: &[u8]) -> Result<ArrayVec<u16, MOST_UNKNOWNS>, Fault>
     requires { length bytes.now ≤ 16384 }
     ensures { Placed (places_from (sig_of (P.declares problem.now)) bytes.now 0 (P.declares problem.now).unknowns 0) result }
 {
@@ -55,7 +55,7 @@ fn read_roots<P: Declares>(problem: &P, bytes: &[u8]) -> Result<ArrayVec<u16, 16
 impl<P: Declares> Model<'_, P> {
     // Where the values start, of these types, that stand one after another from a place on. In a model that was read, they
     // do not fail.
-    fn starts(&self, types: &[u8], place: usize) -> ArrayVec<u16, 6>
+    fn starts(&self, types: &[u8], place: usize) -> ArrayVec<u16, MOST_ARGUMENTS>
         requires few { length types.now ≤ 6 }
         requires low { place ≤ length self.now.bytes.now }
         ensures { result.items ≡ starts_from (sig_of (P.declares self.now.problem.now)) self.now.bytes.now types.now place }
@@ -86,7 +86,7 @@ impl<P: Declares> Decides for Model<'_, P> {
 
     fn choice(&self, unknown: u16) -> Option<Choice> {
         let place = usize::from(unknown);
-        let Some([2, ty, constructor, ..]) = self.bytes.get(place..) else {
+        let Some([CONSTRUCTOR, ty, constructor, ..]) = self.bytes.get(place..) else {
             return None;
         };
         let types = self.problem.argument_types(*ty, *constructor);

@@ -7,6 +7,12 @@ ghost use Rattle.model.specs.Within.{Within, Topped};
 use crate::declares::Declares;
 use syntax::faults::{Fault, Reason};
 
+// The bytes that open a part of a value, and that write a constructor.
+// Kept as it is: two bytes and no Tag, since the tags of terms have none for the first.
+const OPEN: u8 = 8;
+
+pub(crate) const CONSTRUCTOR: u8 = 2;
+
 // Reads a value of a problem's types in the record that starts at `mark`.
 #[derive(Drop)]
 pub struct ValueReader<'a, P> {
@@ -51,12 +57,11 @@ impl<P: Declares> ValueReader<'_, P> {
         ensures exact { result ≡ top_of (sig_of (P.declares self.now.problem.now)) self.now.bytes.now self.now.mark ty place }
         ensures within { Topped place (length self.now.bytes.now) result }
     {
-        // Kept as it is: 8 opens a part and 2 writes a constructor; the tags of terms have no byte for the first.
         let tag = self.byte(place)?;
-        if tag == 8 {
+        if tag == OPEN {
             return Ok(None);
         }
-        if tag != 2 {
+        if tag != CONSTRUCTOR {
             return Err(Reason::BadTerm.at(place));
         }
         if self.byte(place + 1)? != ty {

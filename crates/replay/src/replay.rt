@@ -8,6 +8,7 @@ use held::explanation::Explanation;
 use held::places::Place;
 use judge::decides::Decides;
 use judge::judge::Judge;
+use judge::left::STEP_PLACES;
 use model::deciding::read_model;
 use problem::problem::Problem;
 
@@ -45,7 +46,7 @@ pub fn replay<'a>(
     if steps < 1 || steps > MOST_STEPS {
         return Err(ReplayFault::Steps);
     }
-    if memory.len() < 6 * steps {
+    if memory.len() < STEP_PLACES * steps {
         return Err(ReplayFault::Places);
     }
     if answer.len() != problem.goals() {

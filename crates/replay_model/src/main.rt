@@ -2,6 +2,7 @@
 #![tactic(auto)]
 
 use held::places::Place;
+use judge::left::STEP_PLACES;
 use problem::take::take;
 use replay::replay::{MOST_STEPS, replay};
 use std::{env, fs, io};
@@ -24,7 +25,7 @@ fn run(rt: &HostRuntime, bytes: &[u8], model: &[u8]) -> io::Result<()> {
     }
     let heap = rt.alloc();
     let problem = take(heap, bytes)?;
-    let mut memory = vec![in heap; Place::BLANK; 6 * MOST_STEPS]?;
+    let mut memory = vec![in heap; Place::BLANK; STEP_PLACES * MOST_STEPS]?;
     let mut answer = vec![in heap; 0u8; problem.goals()]?;
     if let Err(fault) = replay(
         &problem,

@@ -8,7 +8,7 @@ use Rattle.judge.specs.Texts.{text_of, tlength}
 use Rattle.judge.proofs.Texts.{reads, shown}
 use Rattle.problem.specs.declared.view.View.TheVariants as view
 use Rattle.judge.proofs.Sets.{adds_none, adds_append, adds_only, explains}
-use Rattle.judge.proofs.Agreeing.{opens, shut, opens_comparing, shut_comparing, stands_missing, stands_unknown, stands_term, stands_is, by, by_verdict, lost, lost_verdict, lost_right, still_waits, as_none, as_head, as_verdict, agrees_join, concurs_join, holds_length, not_false, false_head, and_left_true, lost_and, pairs_none, pairs_more}
+use Rattle.judge.proofs.Agreeing.{opens, shut, opens_comparing, shut_comparing, stands_missing, stands_unknown, stands_term, by, by_verdict, lost, lost_verdict, lost_right, still_waits, as_none, as_head, as_verdict, agrees_join, concurs_join, not_false, false_head, and_left_true, lost_and, pairs_none, pairs_more}
 use Rattle.judge.proofs.Keeping.{stands_kept, env_kept, row_kept}
 use Rattle.judge.proofs.judge.Judge.+judging.Goals as goal
 
@@ -29,10 +29,10 @@ arguments-returns-in_err-compare-clause-pairs g t c d xs ys le long rx ry =
     let K : Unknowns ℕ = g.D.Decides.unknowns c.args.self.now.decider.now in
     let l = c.args.left.now in
     let A : Asks ℕ = judges x.problem K d in
-    pairs_more (Reads x) A l.memory.places.now l.memory.top c.args.xs c.args.ys c.args.count l.steps xs ys _ _ _ _ (omega arith) long rx ry
+    pairs_more (Reads x) A l.memory.places.now l.memory.top c.args.xs c.args.ys c.args.count l.steps xs ys _ _ _ _ _ _ c.argument-x.ensures c.argument-y.ensures (omega arith) long rx ry
     (λ h k hs ks sh sk less rhs rks.
     let rest = after_pair (pairs A hs ks) in
-    lost_verdict c.from_residual.ensures (ap (go_on rest) (c.in_err-compare.ensures.compares d h k le (stands_is (Reads x) l.memory.places.now l.memory.top h c.argument-x.result _ c.argument-x.ensures sh) (stands_is (Reads x) l.memory.places.now l.memory.top k c.argument-y.result _ c.argument-y.ensures sk)).means))
+    lost_verdict c.from_residual.ensures (ap (go_on rest) (c.in_err-compare.ensures.compares d h k le sh sk).means))
 
 pub arguments-returns-in_err-rest-in-Same-clause-pairs : goal.arguments-returns-in_err-rest-in-Same-clause-pairs
 arguments-returns-in_err-rest-in-Same-clause-pairs g t c d xs ys le long rx ry =
@@ -40,10 +40,10 @@ arguments-returns-in_err-rest-in-Same-clause-pairs g t c d xs ys le long rx ry =
     let K : Unknowns ℕ = g.D.Decides.unknowns c.args.self.now.decider.now in
     let l = c.args.left.now in
     let A : Asks ℕ = judges x.problem K d in
-    pairs_more (Reads x) A l.memory.places.now l.memory.top c.args.xs c.args.ys c.args.count l.steps xs ys _ _ _ _ (omega arith) long rx ry
+    pairs_more (Reads x) A l.memory.places.now l.memory.top c.args.xs c.args.ys c.args.count l.steps xs ys _ _ _ _ _ _ c.argument-x.ensures c.argument-y.ensures (omega arith) long rx ry
     (λ h k hs ks sh sk less rhs rks.
     let rest = after_pair (pairs A hs ks) in
-    let v = as_verdict c.in-Same.is (c.in_ok-compare.ensures.compares d h k le (stands_is (Reads x) l.memory.places.now l.memory.top h c.argument-x.result _ c.argument-x.ensures sh) (stands_is (Reads x) l.memory.places.now l.memory.top k c.argument-y.result _ c.argument-y.ensures sk)) in
+    let v = as_verdict c.in-Same.is (c.in_ok-compare.ensures.compares d h k le sh sk) in
     let later = c.in_err-rest-in-Same.ensures.pairs d hs ks (omega arith) less (row_kept (Reads x) c.compare.ensures.kept (c.args.xs + 1) hs rhs) (row_kept (Reads x) c.compare.ensures.kept (c.args.ys + 1) ks rks) in
     lost_verdict c.from_residual-in_err-rest-in-Same.ensures (ap (go_on rest) v.1 ∙ ap (go_on (λ w. give (after_same v.0 w))) later.means))
 
@@ -53,10 +53,10 @@ arguments-returns-in_err-rest-in-Wait-clause-pairs g t c d xs ys le long rx ry =
     let K : Unknowns ℕ = g.D.Decides.unknowns c.args.self.now.decider.now in
     let l = c.args.left.now in
     let A : Asks ℕ = judges x.problem K d in
-    pairs_more (Reads x) A l.memory.places.now l.memory.top c.args.xs c.args.ys c.args.count l.steps xs ys _ _ _ _ (omega arith) long rx ry
+    pairs_more (Reads x) A l.memory.places.now l.memory.top c.args.xs c.args.ys c.args.count l.steps xs ys _ _ _ _ _ _ c.argument-x.ensures c.argument-y.ensures (omega arith) long rx ry
     (λ h k hs ks sh sk less rhs rks.
     let rest = after_pair (pairs A hs ks) in
-    let v = as_verdict c.in-Wait.is (c.in_ok-compare.ensures.compares d h k le (stands_is (Reads x) l.memory.places.now l.memory.top h c.argument-x.result _ c.argument-x.ensures sh) (stands_is (Reads x) l.memory.places.now l.memory.top k c.argument-y.result _ c.argument-y.ensures sk)) in
+    let v = as_verdict c.in-Wait.is (c.in_ok-compare.ensures.compares d h k le sh sk) in
     let later = c.in_err-rest-in-Wait.ensures.pairs d hs ks (omega arith) less (row_kept (Reads x) c.compare.ensures.kept (c.args.xs + 1) hs rhs) (row_kept (Reads x) c.compare.ensures.kept (c.args.ys + 1) ks rks) in
     lost_verdict c.from_residual-in_err-rest-in-Wait.ensures (ap (go_on rest) v ∙ ap (go_on (λ w. give (after_wait c.in-Wait.unknown w))) later.means))
 
@@ -66,10 +66,10 @@ arguments-returns-in_ok-rest-in-Same-clause-pairs g t c d xs ys le long rx ry =
     let K : Unknowns ℕ = g.D.Decides.unknowns c.args.self.now.decider.now in
     let l = c.args.left.now in
     let A : Asks ℕ = judges x.problem K d in
-    pairs_more (Reads x) A l.memory.places.now l.memory.top c.args.xs c.args.ys c.args.count l.steps xs ys _ _ _ _ (omega arith) long rx ry
+    pairs_more (Reads x) A l.memory.places.now l.memory.top c.args.xs c.args.ys c.args.count l.steps xs ys _ _ _ _ _ _ c.argument-x.ensures c.argument-y.ensures (omega arith) long rx ry
     (λ h k hs ks sh sk less rhs rks.
     let rest = after_pair (pairs A hs ks) in
-    let v = as_verdict c.in-Same.is (c.in_ok-compare.ensures.compares d h k le (stands_is (Reads x) l.memory.places.now l.memory.top h c.argument-x.result _ c.argument-x.ensures sh) (stands_is (Reads x) l.memory.places.now l.memory.top k c.argument-y.result _ c.argument-y.ensures sk)) in
+    let v = as_verdict c.in-Same.is (c.in_ok-compare.ensures.compares d h k le sh sk) in
     by_verdict (ap (go_on rest) (sym v.1))
     (c.past_same.ensures c.arguments.new.left c.args.because.now.words v.0 _ (explains c.nothing-own.result.words c.compare.new.because.words c.nothing-own.ensures v.2)
     (c.in_ok-rest-in-Same.ensures.pairs d hs ks (omega arith) less (row_kept (Reads x) c.compare.ensures.kept (c.args.xs + 1) hs rhs) (row_kept (Reads x) c.compare.ensures.kept (c.args.ys + 1) ks rks))))
@@ -80,10 +80,10 @@ arguments-returns-in-Differ-clause-pairs g t c d xs ys le long rx ry =
     let K : Unknowns ℕ = g.D.Decides.unknowns c.args.self.now.decider.now in
     let l = c.args.left.now in
     let A : Asks ℕ = judges x.problem K d in
-    pairs_more (Reads x) A l.memory.places.now l.memory.top c.args.xs c.args.ys c.args.count l.steps xs ys _ _ _ _ (omega arith) long rx ry
+    pairs_more (Reads x) A l.memory.places.now l.memory.top c.args.xs c.args.ys c.args.count l.steps xs ys _ _ _ _ _ _ c.argument-x.ensures c.argument-y.ensures (omega arith) long rx ry
     (λ h k hs ks sh sk less rhs rks.
     let rest = after_pair (pairs A hs ks) in
-    let v = as_verdict c.in-Differ.is (c.in_ok-compare.ensures.compares d h k le (stands_is (Reads x) l.memory.places.now l.memory.top h c.argument-x.result _ c.argument-x.ensures sh) (stands_is (Reads x) l.memory.places.now l.memory.top k c.argument-y.result _ c.argument-y.ensures sk)) in
+    let v = as_verdict c.in-Differ.is (c.in_ok-compare.ensures.compares d h k le sh sk) in
     record {
       means = (v.0, ap (go_on rest) v.1, adds_only _ c.compare.new.because.words (explains c.nothing-own.result.words c.compare.new.because.words c.nothing-own.ensures v.2) c.join.ensures);
     })
@@ -94,10 +94,10 @@ arguments-returns-in_ok-rest-in-Wait-clause-pairs g t c d xs ys le long rx ry =
     let K : Unknowns ℕ = g.D.Decides.unknowns c.args.self.now.decider.now in
     let l = c.args.left.now in
     let A : Asks ℕ = judges x.problem K d in
-    pairs_more (Reads x) A l.memory.places.now l.memory.top c.args.xs c.args.ys c.args.count l.steps xs ys _ _ _ _ (omega arith) long rx ry
+    pairs_more (Reads x) A l.memory.places.now l.memory.top c.args.xs c.args.ys c.args.count l.steps xs ys _ _ _ _ _ _ c.argument-x.ensures c.argument-y.ensures (omega arith) long rx ry
     (λ h k hs ks sh sk less rhs rks.
     let rest = after_pair (pairs A hs ks) in
-    let v = as_verdict c.in-Wait.is (c.in_ok-compare.ensures.compares d h k le (stands_is (Reads x) l.memory.places.now l.memory.top h c.argument-x.result _ c.argument-x.ensures sh) (stands_is (Reads x) l.memory.places.now l.memory.top k c.argument-y.result _ c.argument-y.ensures sk)) in
+    let v = as_verdict c.in-Wait.is (c.in_ok-compare.ensures.compares d h k le sh sk) in
     by_verdict (ap (go_on rest) (sym v))
     (c.past_wait.ensures c.arguments-in-Wait.new.left c.args.because.now.words c.arguments-in-Wait.new.because.words _
     (c.in_ok-rest-in-Wait.ensures.pairs d hs ks (omega arith) less (row_kept (Reads x) c.compare.ensures.kept (c.args.xs + 1) hs rhs) (row_kept (Reads x) c.compare.ensures.kept (c.args.ys + 1) ks rks))))
@@ -304,8 +304,7 @@ head_of_term-returns-in-Constructor-clause-heads g fuel c d t ρ le rt b =
     let l = c.args.left.now in
     let s = shown c.args.self.now.problem.now c.args.place (view.Constructor c.in-Constructor.ty c.in-Constructor.constructor c.in-Constructor.arity c.in-Constructor.arguments) c.in-Constructor.ensures.shows t rt in
     let at = λ (u : Term). headed x.problem K (judges x.problem K d) (hold u ρ) l.steps in
-    let long : c.min-count.result ≡ tlength s.0 = omega (arith, c.min-count.ensures, s.2, s.3) in
-    record { means = (holds s.0 ρ, [], ap at s.1, long ∙ holds_length s.0 ρ, c.hold_terms.ensures.row s.0 ρ long s.4 b, adds_none) }
+    by (ap at (sym s.1)) (c.constructed.ensures.agrees c.args.because.now.words s.0 ρ s.2 s.3 s.4 b)
 
 pub head_of_term-returns-in-Call-clause-heads : goal.head_of_term-returns-in-Call-clause-heads
 head_of_term-returns-in-Call-clause-heads g fuel c d t ρ le rt b =
@@ -314,7 +313,7 @@ head_of_term-returns-in-Call-clause-heads g fuel c d t ρ le rt b =
     let l = c.args.left.now in
     let s = shown c.args.self.now.problem.now c.args.place (view.Call c.in-Call.function c.in-Call.arity c.in-Call.arguments) c.in-Call.ensures.shows t rt in
     let at = λ (u : Term). headed x.problem K (judges x.problem K d) (hold u ρ) l.steps in
-    let long : c.min-count-in-Call.result ≡ tlength s.0 = omega (arith, c.min-count-in-Call.ensures, s.2, s.3) in
+    let long : c.min-count.result ≡ tlength s.0 = omega (arith, c.min-count.ensures, s.2, s.3) in
     by (ap at (sym s.1))
     (c.head-in-Call.ensures.heads d (hold (body_of x.problem c.in-Call.function) (holds s.0 ρ)) le
     (reads (c.body-place.ensures.stands no_function s.4), c.hold_terms-env.ensures.bound s.0 ρ h[] long s.5 b refl))
