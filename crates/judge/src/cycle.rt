@@ -21,7 +21,7 @@ impl<D: Decides> Judge<'_, D> {
         ensures few { Few result }
         ensures heads { Heads (text_of self.now.problem.now) (D.unknowns self.now.decider.now) left.old because.old.words left.new because.new.words at result }
     {
-        // Kept as it is: `checked_sub(1)?` here and in `compare` was tried and takes 15 % more instructions on chain-1000.
+        // Kept as it is: `checked_sub(1)?` was tried and takes 15.5 % more instructions on chain-1000.
         if left.steps == 0 {
             return None; // no step for a head
         }
@@ -167,7 +167,7 @@ impl<D: Decides> Judge<'_, D> {
         ensures kept { Kept 0 left.old left.new }
         ensures compares { Compares (text_of self.now.problem.now) (D.unknowns self.now.decider.now) left.old because.old.words left.new because.new.words a b result }
     {
-        // Kept as it is: for the reason in `head`.
+        // Kept as it is: with the test in `head`, `checked_sub(1)?` here takes as many instructions, and is no plainer beside it.
         if left.steps == 0 {
             return None; // no step for a comparing
         }
