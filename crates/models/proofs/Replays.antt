@@ -24,10 +24,9 @@ use Rattle.finder.specs.Ways.{Way, decided}
 use Rattle.finder.specs.Models.{Partial, open_part, built, Partials, o[], ◌o∷◌, Shows, shows_built, ShowsAll, ◌s∷◌, argument_partial, nth_partial, part_of, head_of, replayed}
 use Rattle.finder.proofs.Ways.{decided_says}
 use Rattle.model.specs.Partial.{OfType, OfTypes, all_written}
-use Rattle.model.specs.Reading.{places_from, reading}
-use Rattle.model.specs.Places.{starts_from, chosen_at, decided_by}
+use Rattle.model.specs.Reading.{places_from, reading, value_end}
+use Rattle.model.specs.Places.{or_stay, starts_from, chosen_at, decided_by}
 use Rattle.model.proofs.Bytes.{at_byte}
-use Rattle.model.proofs.Starts.{starts_length}
 use Rattle.models.specs.Models.{part, parts, written_model}
 use Rattle.replay.specs.declared.faults.ReplayFault.{ReplayFault}
 use Rattle.replay.specs.declared.faults.ReplayFault.TheVariants.{Steps, Places, AnswerLength}
@@ -35,6 +34,10 @@ use Rattle.replay.specs.Replays.{answer_of, whole, accepted, Replayed}
 use Rattle.models.specs.Replays.{WrittenReplays, OneInForce, ReplayAnswers}
 use Rattle.models.proofs.Recording.{fits}
 use Rattle.models.proofs.Sites.{Site, Sited, arguments_sited, records_read}
+
+starts_length : (sig : Sig) (bs ts : List ℕ) (p : ℕ) → length (starts_from sig bs ts p) ≡ length ts
+starts_length sig bs [] p = refl
+starts_length sig bs (t ∷ ts) p = ap suc (starts_length sig bs ts (or_stay p (value_end (length bs) sig bs 0 t p)))
 
 ok_is : {E : Type 0} (xs ys : List ℕ) → ◌≡◌ {A = Result (List ℕ) E} (Ok xs) (Ok ys) → xs ≡ ys
 ok_is xs ys h = cc

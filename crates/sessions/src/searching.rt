@@ -5,6 +5,7 @@ ghost use Rattle.chooser.specs.Meaning.{Same};
 ghost use Rattle.finder.specs.Levels.{measures, too_shallow};
 ghost use Rattle.histories.specs.States.{Session as Abstract, State, begun};
 ghost use Rattle.histories.specs.Calls.{seen};
+ghost use Rattle.histories.specs.Theorem.{NothingOverlooked};
 ghost use Rattle.rounds.specs.Lent.{Kept};
 ghost use Rattle.sessions.specs.Shown.{Shows, ShowsBegun};
 ghost use Rattle.sessions.specs.Limits.{suffice};
@@ -91,6 +92,7 @@ impl Session {
         lent: &mut Lent<'_>,
     ) -> Result<Answer, SessionFault>
         ensures searched { (S : State) → Shows self.old S → Searched (meant problem.now) limits (suffice C.Chooser.most limits.steps (length lent.old.places.now) (length way.old) (length lent.old.literals.now)) S (C.Chooser.meaning chooser.old) self.new (C.Chooser.meaning chooser.new) result }
+        ensures theorem { NothingOverlooked }
         ensures refused { OnErr result ((self.new ≡ self.old) × Same (C.Chooser.meaning chooser.old) (C.Chooser.meaning chooser.new)) }
         ensures kept { Kept lent.old lent.new }
     {

@@ -14,19 +14,19 @@ loop-earlier-init c =
 pub overflow_cast-before : goal.overflow_cast-before
 overflow_cast-before c =
     let few = arguments_few (lawful c.args.problem.now) c.args.ty c.loop-earlier.earlier in
-    let same = ap length c.arguments.ensures in
+    let same = ap length c.arguments.ensures.is in
     omega (arith, few, same)
 
 pub overflow_add-before : goal.overflow_add-before
 overflow_add-before c =
     let few = arguments_few (lawful c.args.problem.now) c.args.ty c.loop-earlier.earlier in
-    let same = ap length c.arguments.ensures in
+    let same = ap length c.arguments.ensures.is in
     omega (arith, few, same)
 
 pub loop-earlier-preserved : goal.loop-earlier-preserved
 loop-earlier-preserved c =
     let few = arguments_few (lawful c.args.problem.now) c.args.ty c.loop-earlier.earlier in
-    let same = ap length c.arguments.ensures in
+    let same = ap length c.arguments.ensures.is in
     let more = one_more (cases_of (sig_of (meant c.args.problem.now)) c.args.ty) c.loop-earlier.earlier in
     record { is = omega (arith, same, more); few = omega (arith, few, same) }
 

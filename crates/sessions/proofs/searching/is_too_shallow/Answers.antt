@@ -12,4 +12,4 @@ pub returns : goal.returns
 returns c =
     let d = measures (meant c.args.problem.now) in
     any_from_yields_List (λ t. nat_lt c.args.depth (d.least t)) _ _ c.any.result c.any.ensures.ran (YieldsList-from_slice c.unknowns.result.now cc) (λ x b q k. search (rules, tests))
-    ∙ any_so d c.args.depth c.unknowns.result.now ∙ ap (any_deeper d c.args.depth) c.unknowns.ensures
+    ∙ any_so d c.args.depth c.unknowns.result.now ∙ ap (any_deeper d c.args.depth) c.unknowns.ensures.is

@@ -24,12 +24,12 @@ loop-constructor-preserved c =
     let cs = cases_of (sig_of (meant c.args.problem.now)) x.ty in
     let low : c.loop-constructor.constructor < length cs = omega arith in
     let next = births_next cs c.loop-constructor.constructor low in
-    let long = ap length c.arguments.ensures in
+    let long = ap length c.arguments.ensures.is in
     let more = c.append.ensures.len in
     let whole = c.loop-constructor.invariant.0 in (
       omega arith,
       kids_step (meant c.args.problem.now) x cs c.loop-constructor.constructor c.saturating_add-level.result c.arguments.result.now
-          (rows_of c.loop-constructor.self) (rows_of c.append.new.self) _ low (omega arith) c.arguments.ensures c.append.ensures.rows
+          (rows_of c.loop-constructor.self) (rows_of c.append.new.self) _ low (omega arith) c.arguments.ensures.is c.append.ensures.rows
           c.loop-constructor.invariant.1,
     )
 
