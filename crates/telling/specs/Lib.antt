@@ -1,0 +1,4 @@
+pub mod Refusals
+pub mod Lines
+pub mod Pages
+pub mod Told

@@ -1,0 +1,6 @@
+// Answers as text, written into memory that the caller lends.
+#![tactic(auto)]
+
+pub mod faults;
+pub mod line;
+mod page;
