@@ -1,1 +1,4 @@
 pub mod Pages
+pub mod Values
+pub mod Unknowns
+pub mod Reading

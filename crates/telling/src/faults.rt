@@ -40,7 +40,7 @@ impl fmt::Display for TellFault {
     fn fmt<W: fmt::Write>(&self, f: &mut fmt::Formatter<W>) -> fmt::Result {
         let number = self.number();
         match self {
-            TellFault::BadModel(fault) => write!(f, "{number}: {fault}"),
+            TellFault::BadModel(inner) => write!(f, "{number}: {inner}"),
             TellFault::SmallOutput => write!(f, "{number}"),
         }
     }
