@@ -1,17 +1,27 @@
-// Reads a problem from the file that is named, or from standard input, and says what it declares or why it is refused.
+// Searches a problem, which it reads from the file that is named or from standard input, at one depth after the other.
+// Usage: seek [OPTIONS] [FILE]; src/options.rt has the options.
 #![tactic(auto)]
 
+mod listing;
+mod options;
+mod searching;
+
+use learning::Learning;
+use listing::list;
+use options::{Options, Task, Which};
+use plain::Plain;
 use problem::problem::Problem;
 use problem::take::take;
+use searching::Seeker;
 use std::io::Read;
-use std::{env, fs, io};
-use syntax::limits::MOST_TYPES;
+use std::{fs, io};
 use verdict::check::check;
 
-fn input(rt: &HostRuntime) -> io::Result<Vec<u8>> {
-    let mut args = env::args(rt)?;
-    let _program = args.next();
-    if let Some(path) = args.next() {
+// The entries of the chooser.
+const ENTRIES: usize = 32_768;
+
+fn read_problem(rt: &HostRuntime, options: &Options) -> io::Result<Vec<u8>> {
+    if let Some(path) = &options.file {
         return fs::read(rt, path.as_str());
     }
     let mut bytes = Vec::new(rt.alloc());
@@ -19,35 +29,28 @@ fn input(rt: &HostRuntime) -> io::Result<Vec<u8>> {
     Ok(bytes)
 }
 
-// A type's least depth, and what each of its constructors needs.
-fn tell_type(rt: &HostRuntime, problem: &Problem, t: u8) -> io::Result<()> {
-    let least = problem.least(t);
-    print!(rt; "type {t}: least depth {least}, needs")?;
-    for c in 0..problem.constructors(t) {
-        let need = problem.need(t, c);
-        print!(rt; " {need}")?;
+fn seek(rt: &HostRuntime, problem: &Problem, options: &Options) -> anyhow::Result<()> {
+    let seeker = Seeker {
+        rt,
+        problem,
+        options,
+    };
+    match options.which {
+        Which::Plain => seeker.seek(&mut Plain::new(rt.alloc(), ENTRIES)?),
+        Which::Learning => seeker.seek(&mut Learning::new(rt.alloc(), ENTRIES)?),
     }
-    println!(rt; "")
 }
 
-// Kept as it is: types and constructors are gone through by their numbers, here and above, since the calls of a problem take numbers.
-fn tell(rt: &HostRuntime, problem: &Problem) -> io::Result<()> {
-    let types = problem.types();
-    let functions = problem.functions();
-    let unknowns = problem.unknowns().len();
-    let goals = problem.goals();
-    println!(rt; "types {types}, functions {functions}, unknowns {unknowns}, goals {goals}")?;
-    for t in 0..types.min(MOST_TYPES) as u8 {
-        tell_type(rt, problem, t)?;
+fn main(rt: HostRuntime) -> anyhow::Result<()> {
+    let options = Options::read(&rt)?;
+    let bytes = read_problem(&rt, &options)?;
+    if let Err(fault) = check(&bytes) {
+        println!(rt; "refused {fault}")?;
+        return Ok(());
     }
-    Ok(())
-}
-
-fn main(rt: HostRuntime) -> io::Result<()> {
-    let bytes = input(&rt)?;
-    if let Err(fault) = check(bytes.as_slice()) {
-        return println!(rt; "refused {fault}");
+    let problem = take(rt.alloc(), &bytes)?;
+    match options.task {
+        Task::List => Ok(list(&rt, &problem)?),
+        Task::Seek => seek(&rt, &problem, &options),
     }
-    let problem = take(rt.alloc(), bytes.as_slice())?;
-    tell(&rt, &problem)
 }
