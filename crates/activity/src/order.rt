@@ -1,4 +1,4 @@
-ghost use Rattle.std.specs.Prelude.{◌≡◌, ℕ, ◌+◌, ◌/◌, ◌<◌, ◌≤◌, [], length, replicate, vec_len, vec_capacity, All, IfOk, IfSome};
+ghost use Rattle.std.specs.Prelude.{◌≡◌, ℕ, ◌+◌, ◌/◌, ◌%◌, ◌==◌, ◌<◌, ◌≤◌, [], length, replicate, set, vec_len, vec_capacity, All, IfOk, IfSome};
 ghost use Rattle.rows.specs.declared.store.TheConstants.{MOST_VARIABLES};
 ghost use Rattle.trail.specs.Values.{Free};
 
@@ -52,6 +52,8 @@ pub struct Order {
 }
 
 impl Order {
+    ghost use Rattle.activity.specs.Phases.{phases};
+
     // Makes an order of which no variable is in the heap.
     pub fn new(heap: Global) -> Result<Order, AllocError>
         ensures heap { IfOk result (λ o. o.heap.items ≡ []) }
@@ -74,7 +76,8 @@ impl Order {
     fn seat(&mut self, i: usize, v: u16)
         requires within { i < length self.old.heap.items }
         requires named { v < MOST_VARIABLES }
-        ensures { length self.new.heap.items ≡ length self.old.heap.items }
+        ensures length { length self.new.heap.items ≡ length self.old.heap.items }
+        ensures phases { phases self.new ≡ phases self.old }
     {
         self.heap[i] = v;
         self.variables[v as usize].place = Some(i as u16);
@@ -84,7 +87,8 @@ impl Order {
     // Kept as it is: the loops here and in `sift_down` halve and double a place, which no iterator over the heap does.
     fn sift_up(&mut self, place: usize)
         requires { place < length self.old.heap.items }
-        ensures { length self.new.heap.items ≡ length self.old.heap.items }
+        ensures length { length self.new.heap.items ≡ length self.old.heap.items }
+        ensures phases { phases self.new ≡ phases self.old }
     {
         let mut i = place;
         let v = self.heap[i];
@@ -136,7 +140,9 @@ impl Order {
     }
 
     // Puts the variable into the heap, if it is not there.
-    pub fn insert(&mut self, v: u16) {
+    pub fn insert(&mut self, v: u16)
+        ensures { phases self.new ≡ phases self.old }
+    {
         let i = self.heap.len();
         if i < MOST_VARIABLES
             && (v as usize) < MOST_VARIABLES
@@ -178,7 +184,9 @@ impl Order {
     }
 
     // Keeps the value that makes the literal true, and puts its variable into the heap.
-    pub(crate) fn release(&mut self, l: u16) {
+    pub(crate) fn release(&mut self, l: u16)
+        ensures { phases self.new ≡ set (phases self.old) (l / 2) (l % 2 == 0) }
+    {
         let v = l / 2;
         if (v as usize) < MOST_VARIABLES {
             self.variables[v as usize].phase = is_positive(l);
