@@ -56,7 +56,8 @@ fn main(rt: HostRuntime) -> io::Result<()> {
     let _program = args.next();
     let times = args
         .next()
-        .map(|text| text.as_str().parse::<u32>().unwrap_or(1));
+        .map(|text| text.as_str().parse::<u32>().unwrap_or(1))
+        .filter(|times| *times > 0);
     for size in SIZES {
         match times {
             Some(times) => measure(&rt, size, times)?,

@@ -3,12 +3,12 @@
 // Usage: chooser_bench plain|learning FILE ..
 #![tactic(auto)]
 
+use arrayvec::ArrayVec;
 use chooser::{Answer, Chooser, Fault};
 use learning::Learning;
 use plain::Plain;
 use rows::{MOST_ENTRIES, MOST_VARIABLES};
 use std::alloc::{AllocError, Global};
-use std::str::SplitAsciiWhitespace;
 use std::time::Instant;
 use std::{env, fmt, fs};
 
@@ -53,16 +53,81 @@ impl fmt::Display for Score {
     }
 }
 
-// The literal that a word names.
-fn literal(word: &str) -> Option<u16> {
-    let number = word.parse::<i16>().ok()?;
-    let variable = number.unsigned_abs().checked_sub(1)?;
-    Some(2 * variable + u16::from(number < 0))
+// The calls that a line can make.
+#[derive(Clone, Copy)]
+enum Call {
+    Allot,
+    Add,
+    Ask,
 }
 
-// The literals that the words behind a call name.
-fn literals(heap: Global, words: SplitAsciiWhitespace<'_>) -> Result<Vec<u16>, AllocError> {
-    words.filter_map(literal).collect(heap)
+impl Call {
+    fn named(letter: u8) -> Option<Call> {
+        match letter {
+            b'v' => Some(Call::Allot),
+            b'a' => Some(Call::Add),
+            b'q' => Some(Call::Ask),
+            _ => None,
+        }
+    }
+}
+
+// What is read of a script's line.
+#[derive(Drop)]
+struct Line {
+    // By the last byte that writes no number; a line without one makes the call of the line before.
+    call: Option<Call>,
+    // Those behind the call's byte; more than fit in are left out.
+    literals: ArrayVec<u16, MOST_VARIABLES>,
+    // The last number that was read: so many variables `v` allots.
+    number: u32,
+}
+
+impl Line {
+    fn read(&mut self, line: &[u8]) {
+        self.literals.clear();
+        for word in line.split(|b| *b == b' ') {
+            self.read_word(word);
+        }
+    }
+
+    fn read_word(&mut self, word: &[u8]) {
+        let mut minus = false;
+        let mut number = None;
+        for &b in word {
+            match b {
+                b'0'..=b'9' => {
+                    let digits = number.unwrap_or(0u32).min(100000);
+                    number = Some(10 * digits + u32::from(b - b'0'));
+                }
+                b'-' => {
+                    minus = true;
+                    number = number.and(Some(0));
+                    self.number = 0;
+                }
+                letter => {
+                    self.call = Call::named(letter);
+                    self.literals.clear();
+                }
+            }
+        }
+        if let Some(number) = number {
+            self.number = number;
+            if let Some(literal) = literal(number, minus) {
+                let _ = self.literals.try_push(literal);
+            }
+        }
+    }
+}
+
+// The literal of a variable counted from 1, if there is such a variable.
+fn literal(number: u32, minus: bool) -> Option<u16> {
+    let variable = number.checked_sub(1)?;
+    if (variable as usize) < MOST_VARIABLES {
+        Some(2 * variable as u16 + u16::from(minus))
+    } else {
+        None
+    }
 }
 
 // Kept as it is: decide's `allot` asks that so many are left; a script that wants more is refused at the first that is not.
@@ -84,22 +149,25 @@ fn ask<C: Chooser>(
     chooser.ask(assumptions, &mut values[..count])
 }
 
-// Runs each line's call; a line that begins with another word is passed over.
-fn play<C: Chooser>(heap: Global, chooser: &mut C, script: &str) -> Result<Score, AllocError> {
+// Makes each line's call. What stands behind the last line's end is no line.
+fn play<C: Chooser>(heap: Global, chooser: &mut C, script: &[u8]) -> Result<Score, AllocError> {
     let mut values = vec![in heap; 0u8; MOST_VARIABLES]?;
     let mut score = Score::default();
-    for line in script.lines() {
-        let mut words = line.split_ascii_whitespace();
-        match words.next() {
-            Some("v") => {
-                let variables = words.next().and_then(|word| word.parse::<u32>().ok());
-                score.took(allot(chooser, variables.unwrap_or(0)));
-            }
-            Some("a") => score.took(chooser.add(&literals(heap, words)?)),
-            Some("q") => {
-                score.answered(ask(chooser, &literals(heap, words)?, &mut values));
-            }
-            _ => {}
+    let mut line = Line {
+        call: None,
+        literals: ArrayVec::new(),
+        number: 0,
+    };
+    for text in script.split_inclusive(|b| *b == b'\n') {
+        let Some((b'\n', text)) = text.split_last() else {
+            break;
+        };
+        line.read(text);
+        match line.call {
+            Some(Call::Allot) => score.took(allot(chooser, line.number)),
+            Some(Call::Add) => score.took(chooser.add(&line.literals)),
+            Some(Call::Ask) => score.answered(ask(chooser, &line.literals, &mut values)),
+            None => {}
         }
     }
     Ok(score)
@@ -109,7 +177,7 @@ fn report<C: Chooser>(
     rt: &HostRuntime,
     chooser: &mut C,
     path: &str,
-    script: &str,
+    script: &[u8],
 ) -> anyhow::Result<()> {
     let start = Instant::now(rt)?;
     let score = play(rt.alloc(), chooser, script)?;
@@ -126,15 +194,15 @@ fn run(rt: &HostRuntime) -> anyhow::Result<()> {
             "plain" => kind = Kind::Plain,
             "learning" => kind = Kind::Learning,
             path => {
-                let script = fs::read_to_string(rt, path)?;
+                let script = fs::read(rt, path)?;
                 match kind {
                     Kind::Plain => {
                         let mut chooser = Plain::new(rt.alloc(), MOST_ENTRIES)?;
-                        report(rt, &mut chooser, path, script.as_str())?;
+                        report(rt, &mut chooser, path, &script)?;
                     }
                     Kind::Learning => {
                         let mut chooser = Learning::new(rt.alloc(), MOST_ENTRIES)?;
-                        report(rt, &mut chooser, path, script.as_str())?;
+                        report(rt, &mut chooser, path, &script)?;
                     }
                 }
             }

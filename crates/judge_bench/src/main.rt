@@ -15,10 +15,14 @@ use replay::replay::MOST_STEPS;
 use std::time::Instant;
 use std::{env, fs, io};
 
-// What the first goal is judged to be, and the steps that were left; none where there is no goal, or no room for all steps.
+// What the first goal is judged to be, and the steps that were left; none where there is no room for all steps.
 fn once<D: Decides>(judge: &Judge<'_, D>, places: &mut [Place]) -> Option<(Judgement, usize)> {
-    if judge.problem.goals() == 0 || places.len() < STEP_PLACES * MOST_STEPS {
+    if places.len() < STEP_PLACES * MOST_STEPS {
         return None;
+    }
+    // Without a goal no term stands where one is judged, and judging is out after a step.
+    if judge.problem.goals() == 0 {
+        return Some((Judgement::Out, MOST_STEPS - 1));
     }
     let mut left = Left::new(Memory::new(places), MOST_STEPS);
     let mut because = Explanation::nothing();
@@ -33,7 +37,7 @@ fn measure<D: Decides>(
     times: Option<u32>,
 ) -> io::Result<()> {
     let Some((judged, left)) = once(judge, places) else {
-        return println!(rt; "the problem has no goal");
+        return println!(rt; "no room, 0 steps");
     };
     let steps = MOST_STEPS.saturating_sub(left);
     let Some(times) = times else {
@@ -62,7 +66,8 @@ fn main(rt: HostRuntime) -> io::Result<()> {
     };
     let times = args
         .next()
-        .map(|text| text.as_str().parse::<u32>().unwrap_or(1));
+        .map(|text| text.as_str().parse::<u32>().unwrap_or(1))
+        .filter(|times| *times > 0);
     let heap = rt.alloc();
     let bytes = fs::read(&rt, path.as_str())?;
     let problem = take(heap, bytes.as_slice())?;
