@@ -9,7 +9,7 @@ use problem::problem::Problem;
 use unknowns::table::{Case, MOST, Table};
 
 // The most bytes that a model has: three for each of a problem's 16 unknowns, and at most three for each of a table's.
-const MOST_BYTES: usize = 3 * (16 + MOST);
+pub const MOST_BYTES: usize = 3 * (16 + MOST);
 
 // The bytes of a model, as far as they are written.
 type Bytes = ArrayVec<u8, MOST_BYTES>;

@@ -4,6 +4,8 @@ use crate::options::Options;
 use answers::answer::{Answer, Outcome};
 use chooser::Chooser;
 use held::places::Place;
+use judge::left::STEP_PLACES;
+use models::writing::MOST_BYTES;
 use problem::problem::Problem;
 use rounds::search::{Lent, Limits};
 use sessions::session::Session;
@@ -13,16 +15,11 @@ use std::ops::Range;
 use telling::line::line;
 use telling::show::show;
 
-// Places of the judge's memory for each step.
-const PLACES_EACH: usize = 6;
-
 // No answer's line is longer.
 const LONGEST_LINE: usize = 128;
 
-// No model has more bytes, and none of them makes more than five of its text.
-const LONGEST_MODEL: usize = 1_584;
-
-const LONGEST_TEXT: usize = 5 * LONGEST_MODEL;
+// No byte of a model makes more than five of its text.
+const LONGEST_TEXT: usize = 5 * MOST_BYTES;
 
 #[derive(Drop)]
 pub struct Seeker<'a> {
@@ -69,7 +66,7 @@ impl Seeker<'_> {
         let Options { rounds, steps, .. } = *self.options;
         let mut way = vec![in heap; 0u8; most]?;
         let mut literals = vec![in heap; 0u16; most]?;
-        let mut places = vec![in heap; Place::BLANK; steps.saturating_mul(PLACES_EACH)]?;
+        let mut places = vec![in heap; Place::BLANK; steps.saturating_mul(STEP_PLACES)]?;
         let mut lent = Lent {
             places: &mut places,
             literals: &mut literals,
@@ -100,7 +97,7 @@ impl Seeker<'_> {
 
     // Shows the model at hand, and keeps its bytes if so asked.
     fn show_model(&self, session: &Session) -> anyhow::Result<()> {
-        let mut model = vec![in self.rt.alloc(); 0u8; LONGEST_MODEL]?;
+        let mut model = vec![in self.rt.alloc(); 0u8; MOST_BYTES]?;
         let length = session.model(self.problem, &mut model)?;
         model.truncate(length);
         if let Some(path) = &self.options.model {

@@ -5,16 +5,13 @@ ghost use Rattle.sessions.specs.Limits.{limits_refusal, suffice};
 
 use crate::faults::SessionFault;
 use chooser::Chooser;
+use judge::left::STEP_PLACES;
+use replay::replay::MOST_STEPS;
 use rounds::search::{Lent, Limits};
 
 const MOST_DEPTH: usize = 64;
 
 const MOST_ROUNDS: usize = 65_535;
-
-const MOST_STEPS: usize = 4_096;
-
-// The most places of the working memory that the judge takes for a step.
-const PLACES_EACH: usize = 6;
 
 pub(crate) fn check_limits(limits: Limits) -> Result<(), SessionFault>
     ensures refusal { told result ≡ limits_refusal limits.depth limits.rounds limits.steps }
@@ -35,5 +32,5 @@ pub(crate) fn has_room<C: Chooser>(steps: usize, way: &[u8], lent: &Lent<'_>) ->
     ensures { result ≡ suffice C.Chooser.most steps (length lent.now.places.now) (length way.now) (length lent.now.literals.now) }
 {
     let most = usize::from(C::variables_most());
-    lent.places.len() >= PLACES_EACH * steps && way.len() >= most && lent.literals.len() >= most
+    lent.places.len() >= STEP_PLACES * steps && way.len() >= most && lent.literals.len() >= most
 }
