@@ -1,5 +1,5 @@
 -- The rows of the table together. Assumes nothing.
-use Rattle.std.proofs.Common.{◌≡◌, Ok, refl, sym, ◌∙◌}
+use Rattle.std.proofs.Common.{◌≡◌, Ok, refl}
 use Rattle.syntax.specs.Problems.{Problem}
 use Rattle.judging.specs.Judging.{judges}
 use Rattle.judging.specs.Examples.{is_two, NineSteps}
