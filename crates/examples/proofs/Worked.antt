@@ -6,7 +6,7 @@ use Rattle.judging.specs.Examples.{is_two, NineSteps}
 use Rattle.verdict.specs.Verdict.{verdict}
 use Rattle.verdict.specs.Exact.{Encodes}
 use Rattle.verdict.proofs.Exact.{verdict_is_exact}
-use Rattle.examples.specs.Worked.{two_equal_naturals, Shipped, OthersAccepted, WorkedExamples}
+use Rattle.examples.specs.Worked.{two_equal_naturals, Shipped, WorkedExamples}
 use Rattle.examples.proofs.Two.{two_found}
 use Rattle.examples.proofs.Others.{pair_found, never_true, steps_spent}
 use Rattle.examples.proofs.Possible.{lawful, comes_to_hand}
