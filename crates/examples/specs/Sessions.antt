@@ -38,7 +38,7 @@ pub record HasAtHand (qs : Partials) (S : State) : Type 0 where
   pub at_hand : session.model ≡ some hand
   pub written : Writes session hand qs
 
--- the one value 2, as constructors: 1(1(0))
+-- unknown 0 is 2, as constructors 1(1(0))
 abbrev pub two_written : Partials
 two_written = built 1 (built 1 (built 0 o[] o∷ o[]) o∷ o[]) o∷ o[]
 

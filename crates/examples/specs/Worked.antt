@@ -37,7 +37,7 @@ pub record WorkedExamples : Type 0 where
   pub others : OthersAccepted
   -- its goal, where unknown 0 is 1(1(0)): true with 9 steps, OUT with 8
   pub nine_steps : NineSteps
-  -- its searches to depths 1, 2 and 3, and to depth 1 again: NONE in 3 rounds, NONE in 3, MODEL in 2, and NONE in 1
+  -- its searches to depths 1, 2 and 3, and to depth 1 again: NONE in 3 rounds, NONE in 3, MODEL in 2, which is 1(1(0)), and NONE in 1
   pub two_found : TwoFound
   -- a pair of naturals and no goal: NONE in no round at depth 1, MODEL in 1 at depth 2
   pub pair_found : PairFound
