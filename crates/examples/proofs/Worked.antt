@@ -3,6 +3,7 @@ use Rattle.std.proofs.Common.{◌≡◌, Ok, refl}
 use Rattle.syntax.specs.Problems.{Problem}
 use Rattle.judging.specs.Judging.{judges}
 use Rattle.judging.specs.Examples.{is_two, NineSteps}
+use Rattle.judging.proofs.Examples.{examples}
 use Rattle.verdict.specs.Verdict.{verdict}
 use Rattle.verdict.specs.Exact.{Encodes}
 use Rattle.verdict.proofs.Exact.{verdict_is_exact}
@@ -33,6 +34,7 @@ worked_examples =
       shipped = shipped;
       others = record { a_pair = refl; a_contradiction = refl; a_loop = refl };
       nine_steps = nine_steps;
+      judged = examples;
       two_found = two_found;
       pair_found = pair_found;
       never_true = never_true;

@@ -3,7 +3,7 @@ use Rattle.std.specs.Prelude.{◌≡◌, ℕ, List, [], ◌∷◌, Ok}
 use Rattle.syntax.specs.Problems.{Problem, encode_problem}
 use Rattle.verdict.specs.Verdict.{verdict}
 use Rattle.verdict.specs.Exact.{Encodes}
-use Rattle.judging.specs.Examples.{is_two, NineSteps}
+use Rattle.judging.specs.Examples.{is_two, NineSteps, Examples}
 use Rattle.examples.specs.Sessions.{TwoFound, pairs, PairFound, contradiction, NeverTrue, looping, StepsSpent, ComesToHand}
 
 -- the bytes of the shipped problem examples/two-equal-naturals.bin
@@ -37,6 +37,8 @@ pub record WorkedExamples : Type 0 where
   pub others : OthersAccepted
   -- its goal, where unknown 0 is 1(1(0)): true with 9 steps, OUT with 8
   pub nine_steps : NineSteps
+  -- the other examples of judging: how it waits, loops, and explains its answers
+  pub judged : Examples
   -- its searches to depths 1, 2 and 3, and to depth 1 again: NONE in 3 rounds, NONE in 3, MODEL in 2, which is 1(1(0)), and NONE in 1
   pub two_found : TwoFound
   -- a pair of naturals and no goal: NONE in no round at depth 1, MODEL in 1 at depth 2
