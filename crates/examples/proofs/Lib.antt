@@ -4,3 +4,4 @@ pub mod Made
 pub mod Two
 pub mod Others
 pub mod Possible
+pub mod Worked

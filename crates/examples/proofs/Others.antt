@@ -39,7 +39,7 @@ pair_found =
       depth_2 = λ M M₁ S₁ r f s.
           let m = made {n = 2} {s = start pairs M} s refl refl refl refl in
           let t = model_round {k = 999} m.runs 0 100 1000 F₀ [] pair_round refl (fresh_at f) in
-          (t.0, m.replies ∙ ap answered t.1.answers);
+          (t.0, m.replies ∙ ap answered t.2.answers);
     }
 
 -- "unknown 0, and false"
@@ -120,7 +120,7 @@ never_true =
           let a = after_never M M₁ S₁ r₁ f s₁ in
           let m = made {n = 1} {s = session M₁ P₁ back} (subst (λ x. Search 1 (after_give_back x (some 0)) M₁ r S₂ M₂) a.1 s) refl refl refl refl in
           let t = model_round {k = 999} m.runs 1 100 998 F₁ (false ∷ []) back_round refl a.2 in
-          (t.0, m.replies ∙ ap answered t.1.answers);
+          (t.0, m.replies ∙ ap answered t.2.answers);
     }
 
 -- a goal that loops

@@ -35,7 +35,7 @@ some_value zero l = record { value = build 0 v[]; of = of_type (omega arith) of[
 some_value (suc zero) l = record { value = build 0 v[]; of = of_type (omega arith) of[]; low = omega arith }
 some_value (suc (suc t)) l = absurd (omega (arith, l))
 
-lawful : Lawful is_two
+pub lawful : Lawful is_two
 lawful =
     record {
       few_types = omega arith;

@@ -196,7 +196,7 @@ module _ (p : Problem) (force : ℕ → Bool) (n steps k : ℕ) (X : Known) (M :
   settled : (bs : List Bool) → length bs ≡ c → F (mk bs) ≡ true → every (lit (mk bs)) asks ≡ true → below p c X.table ≡ true
       → decides_all p (mk bs) X.table ≡ true → ((w : Way) → F w ≡ true → every (lit w) asks ≡ true → Is w 0 bs)
       → Turned p force n steps k X M a X' M'
-      → (w : Way) × Then p force n steps k X M a X' M' w (decided p X.table (mk bs)) (finds p force steps X (mk bs))
+      → (w : Way) × Is w 0 bs × Then p force n steps k X M a X' M' w (decided p X.table (mk bs)) (finds p force steps X (mk bs))
   settled bs long can meets inside dec only (inl t) = absurd (both_ways _ (t.0 (mk bs)) (and_from _ _ (allowed (mk bs) ∙ can) meets))
   settled bs long can meets inside dec only (inr (inl t)) =
       let w : Way = t.0 in
@@ -205,8 +205,9 @@ module _ (p : Problem) (force : ℕ → Bool) (n steps k : ℕ) (X : Known) (M :
   settled bs long can meets inside dec only (inr (inr t)) =
       let w : Way = t.0 in
       let s = picks_as asks w t.1 in
-      let same = decision_alike p c w (mk bs) (like w bs long (only w s.0 s.1)) X.table inside in
-      (w, subst (λ δ. Then p force n steps k X M a X' M' w δ (finding p (under p δ) force steps)) same t.2)
+      let is = only w s.0 s.1 in
+      let same = decision_alike p c w (mk bs) (like w bs long is) X.table inside in
+      (w, is, subst (λ δ. Then p force n steps k X M a X' M' w δ (finding p (under p δ) force steps)) same t.2)
 
   -- where none is
   barred : ((w : Way) → F w ≡ true → every (lit w) asks ≡ true → ⊥) → Turned p force n steps k X M a X' M'
@@ -283,7 +284,7 @@ module _ {p : Problem} {force : ℕ → Bool} {n steps k : ℕ} {X X' : Known} {
   open_round run c F bs o g u found room left q small needs =
       let t = settled p force n steps k X M a X' M' c F q.allows bs o.long o.can o.meets o.inside o.decides o.only (turn run) in
       opened p force n steps k X M a X' M' c F q.allows t.0 (decided p X.table (mk bs)) g u room left q small needs
-      (subst (Then p force n steps k X M a X' M' t.0 (decided p X.table (mk bs))) found t.1)
+      (subst (Then p force n steps k X M a X' M' t.0 (decided p X.table (mk bs))) found t.2)
 
   pub record_round : Runs p force n steps (suc k) X M a X' M' → (c : ℕ) (F : Way → Bool) (bs : List Bool) → OneWay p force n c X F bs
       → (g : ℕ) (E : List Path) → finds p force steps X (mk bs) ≡ false_goal g E → (room left : ℕ) (cl : List ℕ)
@@ -294,19 +295,19 @@ module _ {p : Problem} {force : ℕ → Bool} {n steps k : ℕ} {X X' : Known} {
   record_round run c F bs o g E found room left cl is long q =
       let t = settled p force n steps k X M a X' M' c F q.allows bs o.long o.can o.meets o.inside o.decides o.only (turn run) in
       recorded p force n steps k X M a X' M' c F q.allows t.0 (decided p X.table (mk bs)) g E room left cl is long q
-      (subst (Then p force n steps k X M a X' M' t.0 (decided p X.table (mk bs))) found t.1)
+      (subst (Then p force n steps k X M a X' M' t.0 (decided p X.table (mk bs))) found t.2)
 
   pub model_round : Runs p force n steps (suc k) X M a X' M' → (c room left : ℕ) (F : Way → Bool) (bs : List Bool) → OneWay p force n c X F bs
-      → finds p force steps X (mk bs) ≡ all_true → At c F room left M → (w : Way) × Halts (closes (model w)) a X X' M M'
+      → finds p force steps X (mk bs) ≡ all_true → At c F room left M → (w : Way) × Is w 0 bs × Halts (closes (model w)) a X X' M M'
   model_round run c room left F bs o found q =
       let t = settled p force n steps k X M a X' M' c F q.allows bs o.long o.can o.meets o.inside o.decides o.only (turn run) in
-      (t.0, subst (Then p force n steps k X M a X' M' t.0 (decided p X.table (mk bs))) found t.1)
+      (t.0, t.1, subst (Then p force n steps k X M a X' M' t.0 (decided p X.table (mk bs))) found t.2)
 
   pub out_round : Runs p force n steps (suc k) X M a X' M' → (c room left : ℕ) (F : Way → Bool) (bs : List Bool) → OneWay p force n c X F bs
       → (g : ℕ) → finds p force steps X (mk bs) ≡ out_of_steps g → At c F room left M → Halts (closes (spent_steps g)) a X X' M M'
   out_round run c room left F bs o g found q =
       let t = settled p force n steps k X M a X' M' c F q.allows bs o.long o.can o.meets o.inside o.decides o.only (turn run) in
-      subst (Then p force n steps k X M a X' M' t.0 (decided p X.table (mk bs))) found t.1
+      subst (Then p force n steps k X M a X' M' t.0 (decided p X.table (mk bs))) found t.2
 
   pub none_round : Runs p force n steps (suc k) X M a X' M' → (c room left : ℕ) (F : Way → Bool) → At c F room left M
       → ((w : Way) → F w ≡ true → every (lit w) (asked p (measures p) force n X.table) ≡ true → ⊥)

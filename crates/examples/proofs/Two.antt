@@ -1,19 +1,20 @@
 -- "The unknown is 2", round by round. Assumes nothing.
-use Rattle.std.proofs.Common.{◌≡◌, ℕ, Bool, true, false, not, ◌&&◌, ◌||◌, [], ◌∷◌, sym, refl, ap, ◌∙◌, subst, arith}
-use mathlib.Core.Option.{Option, none}
+use Rattle.std.proofs.Common.{◌≡◌, ℕ, Bool, true, false, not, cond, ◌&&◌, ◌||◌, List, [], ◌∷◌, sym, refl, ap, ◌∙◌, subst, arith}
+use mathlib.Core.Option.{Option, none, some}
 use Rattle.std.proofs.lemmas.Bool.{and_parts, and_from, false≢true}
 use Rattle.chooser.specs.Meaning.{Meaning}
 use Rattle.judging.specs.Judging.{judges}
 use Rattle.judging.specs.Paths.{Path, root, child}
 use Rattle.judging.specs.Examples.{is_two}
-use Rattle.finder.specs.Ways.{Way}
+use Rattle.finder.specs.Ways.{Way, decided}
 use Rattle.finder.specs.Clauses.{all_met, opening_clauses}
 use Rattle.finder.specs.Findings.{waiting_goal, false_goal, all_true}
+use Rattle.finder.specs.Models.{ModelOf, shows_built, s[], ◌s∷◌}
 use Rattle.histories.specs.States.{AtHand, Session, State, begun}
 use Rattle.histories.specs.Rounds.{model, none_within, Answer, closes, one_opened, one_recorded, Known, with_opened, with_conflict, finds, conflict_in, Runs}
 use Rattle.histories.specs.Calls.{forcing, in_hand, Reply, answered}
-use Rattle.examples.specs.Sessions.{Fresh, Search, reply, forced, TwoFound}
-use Rattle.examples.proofs.Turns.{mk, At, at_same, OneWay, open_round, record_round, none_round, model_round}
+use Rattle.examples.specs.Sessions.{Fresh, Search, reply, forced, two_written, TwoFound}
+use Rattle.examples.proofs.Turns.{mk, Is, At, at_same, OneWay, open_round, record_round, none_round, model_round}
 use Rattle.examples.proofs.Made.{made, F₀, fresh_at}
 use Rattle.examples.proofs.Values.{one_1, none_1, one_2, one_2_opened, none_2, one_3}
 
@@ -128,7 +129,10 @@ search_2 M M' a X' q run =
     (mk (true ∷ (false ∷ (true ∷ (false ∷ (true ∷ [])))))) refl refl in
     (r.2 ∙ ap one_opened (s.2 ∙ ap one_recorded t.answers), t.known, at_same t.meant s.3)
 
--- depth 3
+-- depth 3: the bits of the way that is left in the end
+abbrev bits : List Bool
+bits = true ∷ (false ∷ (true ∷ (false ∷ (true ∷ (true ∷ (false ∷ []))))))
+
 round_5 : OneWay is_two force 3 5 X₄ F₄ (true ∷ (false ∷ (true ∷ (false ∷ (true ∷ [])))))
 round_5 =
     record {
@@ -150,7 +154,7 @@ last_two true false e f = (refl, refl)
 last_two false true e f = absurd (false≢true f)
 last_two false false e f = absurd (false≢true e)
 
-round_6 : OneWay is_two force 3 7 X₅ F₅ (true ∷ (false ∷ (true ∷ (false ∷ (true ∷ (true ∷ (false ∷ [])))))))
+round_6 : OneWay is_two force 3 7 X₅ F₅ bits
 round_6 =
     record {
       long = refl;
@@ -166,17 +170,33 @@ round_6 =
           (q.0, (q.1.0, (q.1.1.0, (q.1.1.1.0, (q.1.1.1.1.0, (z.0, (z.1, tt)))))));
     }
 
-pub true_third : finds is_two force 512 X₅ (mk (true ∷ (false ∷ (true ∷ (false ∷ (true ∷ (true ∷ (false ∷ [])))))))) ≡ all_true
+pub true_third : finds is_two force 512 X₅ (mk bits) ≡ all_true
 unfolding judges
 true_third = refl
 
 search_3 : (M M' : Meaning) (a : Answer) (X' : Known) → At 5 F₄ 96 981 M → Runs is_two force 3 512 1000 X₄ M a X' M'
-    → (w : Way) × (a ≡ record { outcome = model w; rounds = 2; opened = 1; recorded = 0 }) × (X₅ ≡ X') × At 7 F₅ 94 975 M'
+    → (w : Way) × (a ≡ record { outcome = model w; rounds = 2; opened = 1; recorded = 0 }) × (X₅ ≡ X') × At 7 F₅ 94 975 M' × Is w 0 bits
 search_3 M M' a X' q run =
     let r = open_round {k = 999} run 5 F₄ (true ∷ (false ∷ (true ∷ (false ∷ (true ∷ []))))) round_5 0 (child kid 1 0) waits_third 94 975 q (omega arith)
     (omega arith) in
-    let t = model_round {k = 998} r.4 7 94 975 F₅ (true ∷ (false ∷ (true ∷ (false ∷ (true ∷ (true ∷ (false ∷ []))))))) round_6 true_third r.3 in
-    (t.0, r.2 ∙ ap one_opened t.1.answers, t.1.known, at_same t.1.meant r.3)
+    let t = model_round {k = 998} r.4 7 94 975 F₅ bits round_6 true_third r.3 in
+    (t.0, r.2 ∙ ap one_opened t.2.answers, t.2.known, at_same t.2.meant r.3, t.1)
+
+-- the model that a way with these bits writes
+second_case : (x y : Bool) → y ≡ true → ◌≡◌ {A = Option ℕ} (cond y (some 1) (cond x (some 0) none)) (some 1)
+second_case x true e = refl
+second_case x false e = absurd (false≢true e)
+
+first_case : (x y : Bool) → x ≡ true → y ≡ false → ◌≡◌ {A = Option ℕ} (cond y (some 1) (cond x (some 0) none)) (some 0)
+first_case true true e f = absurd (false≢true (sym f))
+first_case true false e f = refl
+first_case false y e f = absurd (false≢true e)
+
+written : (w : Way) → Is w 0 bits → ModelOf is_two (decided is_two X₅.table w) two_written
+written w q =
+    shows_built (second_case (w 1) (w 2) q.1.1.0)
+    (shows_built (second_case (w 3) (w 4) q.1.1.1.1.0)
+    (shows_built (first_case (w 5) (w 6) q.1.1.1.1.1.0 q.1.1.1.1.1.1.0) s[] s∷ s[]) s∷ s[]) s∷ s[]
 
 -- depth 1 once more
 search_again : (M M' : Meaning) (a : Answer) (X' : Known) → At 7 F₅ 94 975 M → Runs is_two force 1 512 1000 X₅ M a X' M' → a ≡ closes none_within
@@ -187,7 +207,7 @@ search_again M M' a X' q run =
     let y = and_parts (F₃ w) (all_met w ((1 ∷ (5 ∷ (7 ∷ []))) ∷ [])) x.0 in
     let z = and_parts (F₂ w) (all_met w (opening_clauses 3 2)) y.0 in
     none_1 (w 0) (w 1) (w 2) z.0 f)
-    (mk (true ∷ (false ∷ (true ∷ (false ∷ (true ∷ (true ∷ (false ∷ [])))))))) refl refl).answers
+    (mk bits) refl refl).answers
 
 -- the searches one after another
 comes : (M : Meaning) (n : ℕ) (S : State) (a b : Answer) (X X' : Known) → S ≡ begun (session M X' (in_hand n 512 a.outcome)) → a ≡ b → X ≡ X'
@@ -210,10 +230,11 @@ after_2 M M' S S' r e at s =
 
 after_3 : (M M' : Meaning) (S S' : State) (r : Reply) → S ≡ begun (session M X₄ none) → At 5 F₄ 96 981 M → Search 3 S M r S' M'
     → (w : Way) × (r ≡ reply (model w) 2 1 0) × (S' ≡ begun (session M' X₅ (in_hand 3 512 (model w)))) × At 7 F₅ 94 975 M'
+    × Is w 0 bits
 after_3 M M' S S' r e at s =
     let m = made {n = 3} {s = session M X₄ none} (subst (λ x. Search 3 x M r S' M') e s) refl refl refl refl in
     let q = search_3 M M' m.answer m.knows at m.runs in
-    (q.0, m.replies ∙ ap answered q.1, comes M' 3 S' m.answer _ X₅ m.knows m.comes_to q.1 q.2, q.3)
+    (q.0, m.replies ∙ ap answered q.1, comes M' 3 S' m.answer _ X₅ m.knows m.comes_to q.1 q.2, q.3, q.4)
 
 after_again : (M M' : Meaning) (S S' : State) (r : Reply) (h : Option AtHand) → S ≡ begun (session M X₅ h) → At 7 F₅ 94 975 M → Search 1 S M r S' M'
     → r ≡ reply none_within 1 0 0
@@ -231,8 +252,17 @@ two_found =
       depth_3 = λ M M₁ M₂ M₃ S₁ S₂ S₃ r₁ r₂ r f s₁ s₂ s.
           let a = after_1 M M₁ S₁ r₁ f s₁ in
           let b = after_2 M₁ M₂ S₁ S₂ r₂ a.1 a.2 s₂ in
-          let c = after_3 M₂ M₃ S₂ S₃ r b.1 b.2 s in
-          (c.0, c.1);
+          let c = after_3 M₂ M₃ S₂ S₃ r b.1 b.2 s in (
+            c.0,
+            c.1,
+            record {
+              session = session M₃ X₅ (in_hand 3 512 (model c.0));
+              hand = record { way = c.0; depth = 3; steps = 512 };
+              begun_as = c.2;
+              at_hand = refl;
+              written = written c.0 c.4;
+            },
+          );
       again = λ M M₁ M₂ M₃ M₄ S₁ S₂ S₃ S₄ r₁ r₂ r₃ r f s₁ s₂ s₃ s.
           let a = after_1 M M₁ S₁ r₁ f s₁ in
           let b = after_2 M₁ M₂ S₁ S₂ r₂ a.1 a.2 s₂ in

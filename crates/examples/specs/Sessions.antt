@@ -6,10 +6,11 @@ use Rattle.syntax.specs.Terms.{unknown, con, call, both, t[]}
 use Rattle.syntax.specs.Problems.{Problem}
 use Rattle.judging.specs.Examples.{is_two}
 use Rattle.finder.specs.Ways.{Way}
-use Rattle.histories.specs.States.{Session, State, begun, start}
+use Rattle.finder.specs.Models.{Partials, o[], ◌o∷◌, built}
+use Rattle.histories.specs.States.{AtHand, Session, State, begun, start}
 use Rattle.histories.specs.Rounds.{Outcome, model, none_within, never, spent_steps}
 use Rattle.histories.specs.Histories.{Event, History, some?}
-use Rattle.histories.specs.Calls.{Reply, answered, after_put, after_give_back, Searches}
+use Rattle.histories.specs.Calls.{Writes, Reply, answered, after_put, after_give_back, Searches}
 
 -- what a new chooser means once switches for so many goals are allotted; it has plenty of room
 pub record Fresh (goals : ℕ) (M : Meaning) : Type 0 where
@@ -29,6 +30,18 @@ reply o r c k = answered (record { outcome = o; rounds = r; opened = c; recorded
 abbrev pub forced : Problem → Meaning → State
 forced p M = after_put (begun (start p M)) 0
 
+-- a session with a model at hand, which `model` writes as these partial values
+pub record HasAtHand (qs : Partials) (S : State) : Type 0 where
+  pub session : Session
+  pub hand : AtHand
+  pub begun_as : S ≡ begun session
+  pub at_hand : session.model ≡ some hand
+  pub written : Writes session hand qs
+
+-- unknown 0 is 2, as constructors 1(1(0))
+abbrev pub two_written : Partials
+two_written = built 1 (built 1 (built 0 o[] o∷ o[]) o∷ o[]) o∷ o[]
+
 -- "The unknown is 2", searched to depths 1, 2 and 3: the value is found at depth 3. Then depth 1 is searched again: one round.
 pub record TwoFound : Type 0 where
   pub depth_1 : (M M₁ : Meaning) (S₁ : State) (r : Reply) → Fresh 1 M → Search 1 (forced is_two M) M r S₁ M₁
@@ -36,7 +49,7 @@ pub record TwoFound : Type 0 where
   pub depth_2 : (M M₁ M₂ : Meaning) (S₁ S₂ : State) (r₁ r : Reply) → Fresh 1 M → Search 1 (forced is_two M) M r₁ S₁ M₁
       → Search 2 S₁ M₁ r S₂ M₂ → r ≡ reply none_within 3 1 1
   pub depth_3 : (M M₁ M₂ M₃ : Meaning) (S₁ S₂ S₃ : State) (r₁ r₂ r : Reply) → Fresh 1 M → Search 1 (forced is_two M) M r₁ S₁ M₁
-      → Search 2 S₁ M₁ r₂ S₂ M₂ → Search 3 S₂ M₂ r S₃ M₃ → (w : Way) × (r ≡ reply (model w) 2 1 0)
+      → Search 2 S₁ M₁ r₂ S₂ M₂ → Search 3 S₂ M₂ r S₃ M₃ → (w : Way) × (r ≡ reply (model w) 2 1 0) × HasAtHand two_written S₃
   pub again : (M M₁ M₂ M₃ M₄ : Meaning) (S₁ S₂ S₃ S₄ : State) (r₁ r₂ r₃ r : Reply) → Fresh 1 M → Search 1 (forced is_two M) M r₁ S₁ M₁
       → Search 2 S₁ M₁ r₂ S₂ M₂ → Search 3 S₂ M₂ r₃ S₃ M₃ → Search 1 S₃ M₃ r S₄ M₄ → r ≡ reply none_within 1 0 0
 

@@ -1,4 +1,4 @@
-// Sessions worked through by the rules, for every chooser.
+// One table of worked examples of the rules: problem bytes, judging, and sessions with every chooser.
 #![tactic(auto)]
 
 pub mod laws;
