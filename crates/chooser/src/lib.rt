@@ -91,15 +91,12 @@ pub trait Chooser {
     // The greatest number of variables.
     const MAX_VARIABLES: u16;
 
+    // The same number, by which clauses name it.
+    ghost MAX_VARIABLES: { ℕ };
+
     ghost meaning: { Self → Meaning };
 
-    ghost most: { ℕ };
-
-    ghost laws: { Lawful meaning most };
-
-    // Returns `MAX_VARIABLES`. A contract cannot name an associated constant, so generic code learns of it here.
-    fn variables_most() -> u16
-        ensures { result ≡ most };
+    ghost laws: { Lawful meaning MAX_VARIABLES };
 
     // Returns how many variables can still be allotted: the greatest number less the count.
     fn variables_left(&self) -> u16

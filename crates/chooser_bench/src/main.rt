@@ -144,7 +144,7 @@ fn ask<C: Chooser>(
     values: &mut [u8],
 ) -> Result<Answer, Fault> {
     let left = chooser.variables_left();
-    let count = C::variables_most().saturating_sub(left) as usize;
+    let count = C::MAX_VARIABLES.saturating_sub(left) as usize;
     let count = count.min(values.len());
     chooser.ask(assumptions, &mut values[..count])
 }

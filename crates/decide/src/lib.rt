@@ -47,7 +47,7 @@ pub fn decide<C: Chooser>(
     if chooser.variables_left() < variables {
         return Err(Fault::NoVariable);
     }
-    let count = C::variables_most() - chooser.variables_left() + variables;
+    let count = C::MAX_VARIABLES - chooser.variables_left() + variables;
     if !is_whole(count, row) {
         return Err(Fault::Unallotted);
     }

@@ -44,15 +44,11 @@ impl Chooser for Learning {
 
     const MAX_VARIABLES: u16 = MOST_VARIABLES as u16;
 
+    ghost MAX_VARIABLES = { MOST_VARIABLES };
+
     ghost meaning = { learning_means };
 
-    ghost most = { MOST_VARIABLES };
-
     ghost laws = { learning_laws };
-
-    fn variables_most() -> u16 {
-        Self::MAX_VARIABLES
-    }
 
     fn variables_left(&self) -> u16 {
         self.solver.search.facts.store.variables_left()

@@ -31,15 +31,11 @@ impl Plain {
 impl Chooser for Plain {
     const MAX_VARIABLES: u16 = MOST_VARIABLES as u16;
 
+    ghost MAX_VARIABLES = { MOST_VARIABLES };
+
     ghost meaning = { plain_means };
 
-    ghost most = { MOST_VARIABLES };
-
     ghost laws = { plain_laws };
-
-    fn variables_most() -> u16 {
-        Self::MAX_VARIABLES
-    }
 
     fn variables_left(&self) -> u16 {
         self.clauses.variables_left()

@@ -54,7 +54,7 @@ pub fn allot<C: Chooser>(chooser: &mut C, cases: u8) -> Result<u16, Fault>
     if chooser.entries_left() < opening_needs(cases) {
         return Err(Fault::NoEntries);
     }
-    let first = C::variables_most() - chooser.variables_left();
+    let first = C::MAX_VARIABLES - chooser.variables_left();
     let one_holds = allot_each(chooser, cases)?;
     chooser.add(one_holds.as_slice())?;
     add_pairs(chooser, first, cases)?;

@@ -33,15 +33,15 @@ impl Search<'_> {
         lent: &mut Lent<'_>,
     ) -> Turn
         requires places { 6 * self.now.limits.steps ≤ length lent.old.places.now }
-        requires way { C.Chooser.most ≤ length way.old }
-        requires literals { C.Chooser.most ≤ length lent.old.literals.now }
+        requires way { C.Chooser.MAX_VARIABLES ≤ length way.old }
+        requires literals { C.Chooser.MAX_VARIABLES ≤ length lent.old.literals.now }
         ensures kept { Kept lent.old lent.new }
         ensures turned { Turned self.now (C.Chooser.meaning chooser.old) table.old table.new (C.Chooser.meaning chooser.new) cases.new result }
     {
         let literals = &mut *lent.literals;
         let depth = self.limits.depth;
         let assumed = assume(self.problem, table, self.force, depth, literals);
-        let variables = (C::variables_most() - chooser.variables_left()) as usize;
+        let variables = (C::MAX_VARIABLES - chooser.variables_left()) as usize;
         let way = &mut way[..variables];
         match chooser.ask(&literals[..assumed.all], way) {
             Ok(Answer::Yes) => self.settle(chooser, table, cases, way, lent),

@@ -21,8 +21,8 @@ impl Search<'_> {
         lent: &mut Lent<'_>,
     ) -> Answer
         requires places { 6 * self.now.limits.steps ≤ length lent.old.places.now }
-        requires way { C.Chooser.most ≤ length way.old }
-        requires literals { C.Chooser.most ≤ length lent.old.literals.now }
+        requires way { C.Chooser.MAX_VARIABLES ≤ length way.old }
+        requires literals { C.Chooser.MAX_VARIABLES ≤ length lent.old.literals.now }
         ensures kept { Kept lent.old lent.new }
         ensures ran { Ran self.now (C.Chooser.meaning chooser.old) table.old table.new (C.Chooser.meaning chooser.new) cases.new result }
     {

@@ -62,7 +62,7 @@ impl Seeker<'_> {
         chooser: &mut C,
     ) -> anyhow::Result<()> {
         let heap = self.rt.alloc();
-        let most = usize::from(C::variables_most());
+        let most = usize::from(C::MAX_VARIABLES);
         let Options { rounds, steps, .. } = *self.options;
         let mut way = vec![in heap; 0u8; most]?;
         let mut literals = vec![in heap; 0u16; most]?;

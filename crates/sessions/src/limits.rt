@@ -29,8 +29,8 @@ pub(crate) fn check_limits(limits: Limits) -> Result<(), SessionFault>
 // Whether there are places for so many steps, and a byte and a literal for each variable that such a chooser can have.
 pub(crate) fn has_room<C: Chooser>(steps: usize, way: &[u8], lent: &Lent<'_>) -> bool
     requires { steps ≤ 4096 }
-    ensures { result ≡ suffice C.Chooser.most steps (length lent.now.places.now) (length way.now) (length lent.now.literals.now) }
+    ensures { result ≡ suffice C.Chooser.MAX_VARIABLES steps (length lent.now.places.now) (length way.now) (length lent.now.literals.now) }
 {
-    let most = usize::from(C::variables_most());
+    let most = usize::from(C::MAX_VARIABLES);
     lent.places.len() >= STEP_PLACES * steps && way.len() >= most && lent.literals.len() >= most
 }

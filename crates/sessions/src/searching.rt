@@ -56,8 +56,8 @@ impl Begun {
         lent: &mut Lent<'_>,
     ) -> Answer
         requires places { 6 * limits.steps ≤ length lent.old.places.now }
-        requires way { C.Chooser.most ≤ length way.old }
-        requires literals { C.Chooser.most ≤ length lent.old.literals.now }
+        requires way { C.Chooser.MAX_VARIABLES ≤ length way.old }
+        requires literals { C.Chooser.MAX_VARIABLES ≤ length lent.old.literals.now }
         ensures kept { Kept lent.old lent.new }
         ensures sought { (s : Abstract) → ShowsBegun self.old s → s.problem ≡ meant problem.now → seen (begun s) (C.Chooser.meaning chooser.old) ≡ true → Sought limits s (C.Chooser.meaning chooser.old) self.new (C.Chooser.meaning chooser.new) result }
     {
@@ -91,7 +91,7 @@ impl Session {
         way: &mut [u8],
         lent: &mut Lent<'_>,
     ) -> Result<Answer, SessionFault>
-        ensures searched { (S : State) → Shows self.old S → Searched (meant problem.now) limits (suffice C.Chooser.most limits.steps (length lent.old.places.now) (length way.old) (length lent.old.literals.now)) S (C.Chooser.meaning chooser.old) self.new (C.Chooser.meaning chooser.new) result }
+        ensures searched { (S : State) → Shows self.old S → Searched (meant problem.now) limits (suffice C.Chooser.MAX_VARIABLES limits.steps (length lent.old.places.now) (length way.old) (length lent.old.literals.now)) S (C.Chooser.meaning chooser.old) self.new (C.Chooser.meaning chooser.new) result }
         ensures theorem { NothingOverlooked }
         ensures refused { OnErr result ((self.new ≡ self.old) × Same (C.Chooser.meaning chooser.old) (C.Chooser.meaning chooser.new)) }
         ensures kept { Kept lent.old lent.new }

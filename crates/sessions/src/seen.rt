@@ -8,7 +8,7 @@ use chooser::Chooser;
 pub(crate) fn variables<C: Chooser>(chooser: &C) -> u16
     ensures { result ≡ (C.Chooser.meaning chooser.now).count }
 {
-    C::variables_most() - chooser.variables_left()
+    C::MAX_VARIABLES - chooser.variables_left()
 }
 
 impl Begun {

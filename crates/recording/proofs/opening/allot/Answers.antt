@@ -29,6 +29,6 @@ add_pairs-requires-clause-fits g c =
     let long = ap length c.as_slice.ensures.value in
     let added = c.in_ok-add.ensures.spends in
     let whole = g.C.Chooser.laws.whole c.args.chooser.now in
-    let first : c.variables_most.result - c.variables_left-2.result ≡ M.count = omega (arith, whole) in
+    let first : c.MAX_VARIABLES.result - c.variables_left-2.result ≡ M.count = omega (arith, whole) in
     let same = ap (λ a. entries (not_two a c.args.cases)) first in
     omega (arith, spends, takes, long, added, same)

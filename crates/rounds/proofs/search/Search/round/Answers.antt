@@ -73,7 +73,7 @@ returns-in-Err-clause-turned g c =
     let force = forced c.args.self.now.force.now in
     let limits = c.args.self.now.limits in
     let M' : Meaning = g.C.Chooser.meaning c.ask.new.self in
-    let taken = length-take (c.variables_most.result - c.variables_left.result) c.args.way.now in
+    let taken = length-take (c.MAX_VARIABLES.result - c.variables_left.result) c.args.way.now in
     record {
       goes =
           λ T R h.
