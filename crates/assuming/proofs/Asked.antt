@@ -1,7 +1,7 @@
 -- What is asked has a literal for each variable at most, and only of variables that are allotted. Assumes nothing.
 use Rattle.std.proofs.Common.{◌≡◌, ℕ, zero, suc, ◌+◌, ◌*◌, ◌<◌, ◌≤◌, Bool, true, false, cond, ltb, List, [], ◌∷◌, ◌++◌, length, ◌⊎◌, refl, ap, ◌∙◌, inl, inr, arith, length-append}
 use Rattle.std.proofs.Math.Option.{Option, none, some}
-use Rattle.std.proofs.lemmas.Bool.{and_from, and_parts, lt-ltb, cases_lt, cond-false}
+use Rattle.std.proofs.lemmas.Bool.{lt-ltb, cases_lt, cond-false}
 use Rattle.std.proofs.lemmas.List.{get_or_past}
 use Rattle.chooser.specs.Ways.{every, allotted}
 use Rattle.syntax.specs.Problems.{Problem}
@@ -10,6 +10,7 @@ use Rattle.judging.specs.Asked.{◌∈◌, first, later}
 use Rattle.finder.specs.Levels.{Measures, reach, fits}
 use Rattle.finder.specs.Tables.{Entry, Table, width, Tabled}
 use Rattle.finder.specs.Clauses.{on, off}
+use Rattle.finder.proofs.Asking.{every_both, last_every}
 use Rattle.finder.specs.Asking.{switches_on, switches, deep_cases, denials_at, denials, asked}
 use Rattle.finder.proofs.Tables.{opening_entry}
 use Rattle.unknowns.specs.Listing.{taken_by, taken}
@@ -54,14 +55,8 @@ module _ (p : Problem) (d : Measures) (n : ℕ) where
       omega (arith, switches_few force (length p.goals), denials_few T, length-append (switches p force) (denials p d n T))
 
 module _ (f : ℕ → Bool) where
-  every_both : (xs ys : List ℕ) → every f xs ≡ true → every f ys ≡ true → every f (xs ++ ys) ≡ true
-  every_both [] ys e h = h
-  every_both (x ∷ xs) ys e h =
-      let q = and_parts (f x) (every f xs) e in
-      and_from (f x) (every f (xs ++ ys)) q.0 (every_both xs ys q.1 h)
-
   every_longer : (b : Bool) (xs : List ℕ) (l : ℕ) → every f xs ≡ true → f l ≡ true → every f (cond b (xs ++ (l ∷ [])) xs) ≡ true
-  every_longer true xs l e h = every_both xs (l ∷ []) e (and_from (f l) true h refl)
+  every_longer true xs l e h = last_every f xs l e h
   every_longer false xs l e h = e
 
 module _ (count : ℕ) where

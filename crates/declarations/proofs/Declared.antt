@@ -17,7 +17,7 @@ both_none n xs ys e = none_of (first_from n xs) (first_from n ys) (sym (first_jo
 none_both : (n : ℕ) (xs ys : List Number) → first_from n xs ≡ None → first_from n ys ≡ None → first_from n (xs ++ ys) ≡ None
 none_both n xs ys e f = first_joined n xs ys ∙ (ap (λ o. otherwise o (first_from n ys)) e ∙ f)
 
-test_none : (b : Bool) (o : Option ℕ) (p : ℕ) → cond b o (Some p) ≡ None → (b ≡ true) × (o ≡ None)
+pub test_none : (b : Bool) (o : Option ℕ) (p : ℕ) → cond b o (Some p) ≡ None → (b ≡ true) × (o ≡ None)
 test_none true o p e = (refl, e)
 test_none false o p e = cc
 

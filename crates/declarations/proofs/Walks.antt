@@ -1,14 +1,11 @@
 -- The walk over the constructors of a type: an item that has no undeclared type is passed, and
 -- the first that has one stops the walk.
-use Rattle.std.proofs.Common.{◌≡◌, ℕ, ◌+◌, ◌<◌, ◌≤◌, List, [], map, length, get_or, drop, Some, None, sym, refl, ap, ◌∙◌}
+use Rattle.std.proofs.Common.{◌≡◌, ℕ, ◌+◌, ◌<◌, ◌≤◌, List, map, length, get_or, drop, Some, None, sym, refl, ap, ◌∙◌}
 use Rattle.syntax.specs.declared.tables.TypeList.{TypeList}
 use Rattle.syntax.specs.Tables.{listed}
+use Rattle.syntax.proofs.Entries.{no_list}
 use Rattle.declarations.specs.Numbers.{Number, in_list, in_cases, first_from}
 use Rattle.declarations.proofs.First.{passes, stops, ends}
-
--- what a read past the end of a table gives
-abbrev pub no_list : TypeList
-no_list = record { count = 0; types = [] }
 
 module _ (n : ℕ) (cs : List TypeList) (i p : ℕ) where
   of_cases : ℕ → List TypeList → List Number

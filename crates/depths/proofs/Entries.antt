@@ -3,10 +3,7 @@ use Rattle.std.proofs.Common.{◌≡◌, ℕ, ◌<◌, List, [], map, length, ge
 use Rattle.std.proofs.lemmas.List.{get_or-map}
 use Rattle.syntax.specs.declared.tables.Datatype.{Datatype}
 use Rattle.syntax.specs.Tables.{cases_in}
-
--- what a read past the end of a table would give
-abbrev no_datatype : Datatype
-no_datatype = record { at = 0; count = 0; constructors = [] }
+use Rattle.syntax.proofs.Entries.{no_datatype}
 
 pub cases_at : (ds : List Datatype) (t : ℕ) → t < length ds → get_or (map cases_in ds) t [] ≡ cases_in (get_or ds t no_datatype)
 cases_at ds t h = get_or-map cases_in ds t no_datatype [] h

@@ -5,7 +5,7 @@ use Rattle.syntax.specs.Typing.{Sig, Declared}
 use Rattle.syntax.specs.Problems.{Problem, bool, sig_of, Each, FewTypes, LawfulType, Lawful}
 use Rattle.depths.specs.Laws.{Closed, LawfulTypes}
 
-each_at : {A : Type 0} (P : A → Type 0) (xs : List A) (d : A) → Each P xs → (i : ℕ) → i < length xs → P (get_or xs i d)
+pub each_at : {A : Type 0} (P : A → Type 0) (xs : List A) (d : A) → Each P xs → (i : ℕ) → i < length xs → P (get_or xs i d)
 each_at P [] d e i l = absurd (omega (arith, l))
 each_at P (x ∷ xs) d e zero l = e.0
 each_at P (x ∷ xs) d e (suc i) l = each_at P xs d e.1 i (omega (arith, l))

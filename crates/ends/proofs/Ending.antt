@@ -16,7 +16,7 @@ all_long sig t[] (w ∷ ws) h = absurd h
 all_long sig (t t∷ ts) [] h = absurd h
 all_long sig (t t∷ ts) (w ∷ ws) h = ap suc (all_long sig ts ws h.2)
 
-encode_some : (t : Term) → 0 < length (encode t)
+pub encode_some : (t : Term) → 0 < length (encode t)
 encode_some (var v) = omega arith
 encode_some (unknown k) = omega arith
 encode_some (con t c ts) = omega arith
@@ -26,7 +26,7 @@ encode_some (both a b) = omega arith
 encode_some (not a) = omega arith
 encode_some (equal t a b) = omega arith
 
-past_part : (bytes : List ℕ) (q : ℕ) (xs zs : List ℕ) → drop q bytes ≡ xs ++ zs → drop (q + length xs) bytes ≡ zs
+pub past_part : (bytes : List ℕ) (q : ℕ) (xs zs : List ℕ) → drop q bytes ≡ xs ++ zs → drop (q + length xs) bytes ≡ zs
 past_part bytes q xs zs e = sym (drop-drop (length xs) q bytes) ∙ ap (drop (length xs)) e ∙ drop_at xs zs (length xs) refl
 
 pub within : (bytes : List ℕ) (q : ℕ) (t : Term) (zs : List ℕ) → drop q bytes ≡ encode t ++ zs → q + length (encode t) ≤ length bytes
@@ -36,6 +36,9 @@ within bytes q t zs e =
     let a = length-append (encode t) zs in
     let s = encode_some t in
     omega arith
+
+pub read_at : (bytes : List ℕ) (p k : ℕ) (xs : List ℕ) → drop p bytes ≡ xs → get_or bytes (p + k) 0 ≡ get_or xs k 0
+read_at bytes p k xs e = sym (get_or-drop p bytes k 0) ∙ ap (λ ys. get_or ys k 0) e
 
 module _ (sig : Sig) (bytes next : List ℕ) (i : ℕ) (ends : Ends sig bytes next i) (long : length next ≡ length bytes) where
   lands_all : (ts : Terms) (ws : List Want) → AllTyped sig ws ts → (q : ℕ) (zs : List ℕ) → i ≤ q → drop q bytes ≡ encodes ts ++ zs
@@ -61,11 +64,8 @@ module _ (sig : Sig) (bytes next : List ℕ) (i : ℕ) (ends : Ends sig bytes ne
       ∙ lands_all ts ws h (p + length hd) zs le (past_part bytes p hd (encodes ts ++ zs) e)
       ∙ omega arith
 
-  read_at : (p k : ℕ) (xs : List ℕ) → drop p bytes ≡ xs → get_or bytes (p + k) 0 ≡ get_or xs k 0
-  read_at p k xs e = sym (get_or-drop p bytes k 0) ∙ ap (λ ys. get_or ys k 0) e
-
   read_0 : (p a : ℕ) (xs : List ℕ) → drop p bytes ≡ a ∷ xs → get_or bytes p 0 ≡ a
-  read_0 p a xs e = ap (λ q. get_or bytes q 0) (sym (add-zero p)) ∙ read_at p 0 (a ∷ xs) e
+  read_0 p a xs e = ap (λ q. get_or bytes q 0) (sym (add-zero p)) ∙ read_at bytes p 0 (a ∷ xs) e
 
   pub lands : (p : ℕ) → i ≤ p + 1 → (s : List ℕ) (ty : ℕ) (t : Term) (zs : List ℕ) → length s ≤ 64 → Typed sig s ty t → drop p bytes ≡ encode t ++ zs
       → end_at sig bytes next p ≡ p + length (encode t)
@@ -74,21 +74,21 @@ module _ (sig : Sig) (bytes next : List ℕ) (i : ℕ) (ends : Ends sig bytes ne
   lands p le s ty (con k c ts) zs l h e =
       let to : i ≤ p + 3 = omega arith in
       ap (λ a. end_by sig next p a (get_or bytes (p + 1) 0) (get_or bytes (p + 2) 0)) (read_0 p 2 (k ∷ (c ∷ (encodes ts ++ zs))) e)
-      ∙ ap (λ a. end_by sig next p 2 a (get_or bytes (p + 2) 0)) (read_at p 1 (2 ∷ (k ∷ (c ∷ (encodes ts ++ zs)))) e)
-      ∙ ap (λ a. end_by sig next p 2 k a) (read_at p 2 (2 ∷ (k ∷ (c ∷ (encodes ts ++ zs)))) e)
+      ∙ ap (λ a. end_by sig next p 2 a (get_or bytes (p + 2) 0)) (read_at bytes p 1 (2 ∷ (k ∷ (c ∷ (encodes ts ++ zs)))) e)
+      ∙ ap (λ a. end_by sig next p 2 k a) (read_at bytes p 2 (2 ∷ (k ∷ (c ∷ (encodes ts ++ zs)))) e)
       ∙ with_parts p (length (arguments sig k c)) (2 ∷ (k ∷ (c ∷ []))) ts (each_of s (arguments sig ty c)) zs h.2 to e
       (ap (λ y. length (arguments sig y c)) h.0 ∙ sym (length-map (arguments sig ty c) (want s)))
       ∙ omega arith
   lands p le s ty (call f ts) zs l h e =
       let to : i ≤ p + 2 = omega arith in
       ap (λ a. end_by sig next p a (get_or bytes (p + 1) 0) (get_or bytes (p + 2) 0)) (read_0 p 3 (f ∷ (encodes ts ++ zs)) e)
-      ∙ ap (λ a. end_by sig next p 3 a (get_or bytes (p + 2) 0)) (read_at p 1 (3 ∷ (f ∷ (encodes ts ++ zs))) e)
+      ∙ ap (λ a. end_by sig next p 3 a (get_or bytes (p + 2) 0)) (read_at bytes p 1 (3 ∷ (f ∷ (encodes ts ++ zs))) e)
       ∙ with_parts p (length (params_of sig f)) (3 ∷ (f ∷ [])) ts (each_of s (params_of sig f)) zs h.2 to e (sym (length-map (params_of sig f) (want s)))
       ∙ omega arith
   lands p le s ty (case k u us) zs l h e =
       let to : i ≤ p + 2 = omega arith in
       ap (λ a. end_by sig next p a (get_or bytes (p + 1) 0) (get_or bytes (p + 2) 0)) (read_0 p 4 (k ∷ ((encode u ++ encodes us) ++ zs)) e)
-      ∙ ap (λ a. end_by sig next p 4 a (get_or bytes (p + 2) 0)) (read_at p 1 (4 ∷ (k ∷ ((encode u ++ encodes us) ++ zs))) e)
+      ∙ ap (λ a. end_by sig next p 4 a (get_or bytes (p + 2) 0)) (read_at bytes p 1 (4 ∷ (k ∷ ((encode u ++ encodes us) ++ zs))) e)
       ∙ with_parts p (1 + length (cases_of sig k)) (4 ∷ (k ∷ [])) (u t∷ us) (want s k ∷ branches_of s ty (cases_of sig k)) zs (l, h.1, h.2) to e
       (let m = length-map (cases_of sig k) (λ tys. want (s ++ tys) ty) in omega arith)
       ∙ omega arith
@@ -111,7 +111,7 @@ module _ (sig : Sig) (bytes next : List ℕ) (i : ℕ) (ends : Ends sig bytes ne
       let to : i ≤ p + 2 = omega arith in
       let pair = append-nil (encode b) in
       ap (λ a. end_by sig next p a (get_or bytes (p + 1) 0) (get_or bytes (p + 2) 0)) (read_0 p 7 (k ∷ ((encode a ++ encode b) ++ zs)) e)
-      ∙ ap (λ a. end_by sig next p 7 a (get_or bytes (p + 2) 0)) (read_at p 1 (7 ∷ (k ∷ ((encode a ++ encode b) ++ zs))) e)
+      ∙ ap (λ a. end_by sig next p 7 a (get_or bytes (p + 2) 0)) (read_at bytes p 1 (7 ∷ (k ∷ ((encode a ++ encode b) ++ zs))) e)
       ∙ with_parts p 2 (7 ∷ (k ∷ [])) (a t∷ b t∷ t[]) (want s k ∷ (want s k ∷ [])) zs (l, h.2, (l, h.3, tt)) to
       (e ∙ ap (λ bs. 7 ∷ (k ∷ ((encode a ++ bs) ++ zs))) (sym pair)) refl
       ∙ ap (λ bs. p + (2 + length (encode a ++ bs))) pair

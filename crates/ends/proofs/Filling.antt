@@ -49,7 +49,7 @@ head_some Not = omega arith
 head_some Equal = omega arith
 head_some Other = omega arith
 
-filled_long : (sig : Sig) (bytes : List ℕ) (k : ℕ) → length (filled sig bytes k) ≡ length bytes
+pub filled_long : (sig : Sig) (bytes : List ℕ) (k : ℕ) → length (filled sig bytes k) ≡ length bytes
 filled_long sig bytes zero = length-replicate (length bytes) 0
 filled_long sig bytes (suc k) =
     length-set (filled sig bytes k) (length bytes - suc k) (at_most (length bytes) (end_at sig bytes (filled sig bytes k) (length bytes - suc k)))

@@ -2,7 +2,7 @@
 -- Assumes nothing.
 use Rattle.std.proofs.Common.{◌≡◌, ℕ, zero, suc, ◌<◌, Bool, true, false, ◌&&◌, [], ◌∷◌, refl, arith}
 use Rattle.chooser.specs.Ways.{lit, every}
-use Rattle.chooser.specs.Meaning.{Meaning, Same}
+use Rattle.chooser.specs.Meaning.{Meaning}
 use Rattle.syntax.specs.Terms.{con, t[], ◌t∷◌}
 use Rattle.syntax.specs.Typing.{Typed}
 use Rattle.syntax.specs.Values.{build, v[], of_type, of[], Shallow}
@@ -12,6 +12,7 @@ use Rattle.judging.specs.Examples.{two, is_two}
 use Rattle.finder.specs.Levels.{measures}
 use Rattle.finder.specs.Ways.{Way}
 use Rattle.finder.specs.Asking.{asked}
+use Rattle.finder.proofs.Extended.{same_self}
 use Rattle.histories.specs.Rounds.{none_within, model, Runs, none_found, conflict_recorded, unknown_opened, model_found, closes, one_opened, one_recorded}
 use Rattle.histories.specs.Calls.{begins, search_made}
 use Rattle.histories.specs.Histories.{new, begin_accepted, put_called, search_called}
@@ -75,9 +76,6 @@ M₄ = meaning 5 96 981 F₄
 abbrev M₅ : Meaning
 M₅ = meaning 7 94 975 F₅
 
-same : {M : Meaning} → Same M M
-same = record { counts = refl; rooms = refl; leaves = refl; allows = λ w. refl }
-
 no_way : (x y : Bool) → (x ≡ true → y ≡ true → ⊥) → (x && y) ≡ false
 no_way true true f = absurd (f refl refl)
 no_way true false f = refl
@@ -106,7 +104,7 @@ depth_1 =
     (conflict_recorded {k = 998} {M₁ = M₂} w₁ 0 (root 0 ∷ []) (record { picked = record { allowed = refl; meets = refl }; decides = refl }) false_first
     (omega arith) (record { counts = refl; rooms = refl; shrinks = omega arith; spends = omega arith; allows = λ w. refl })
     (none_found {k = 997} w₂ (λ w. no_way (F₂ w) (every (lit w) (asked is_two (measures is_two) force 1 X₂.table)) (none_1 (w 0) (w 1) (w 2)))
-    (record { allowed = refl; meets = refl }) same))
+    (record { allowed = refl; meets = refl }) same_self))
 
 depth_2 : Runs is_two force 2 512 1000 X₂ M₂ (one_opened (one_recorded (closes none_within))) X₄ M₄
 depth_2 =
@@ -117,14 +115,14 @@ depth_2 =
     false_second (omega arith) (record { counts = refl; rooms = refl; shrinks = omega arith; spends = omega arith; allows = λ w. refl })
     (none_found {k = 997} w₄
     (λ w. no_way (F₄ w) (every (lit w) (asked is_two (measures is_two) force 2 X₄.table)) (none_2 (w 0) (w 1) (w 2) (w 3) (w 4)))
-    (record { allowed = refl; meets = refl }) same))
+    (record { allowed = refl; meets = refl }) same_self))
 
 depth_3 : Runs is_two force 3 512 1000 X₄ M₄ (one_opened (closes (model w₅))) X₅ M₅
 depth_3 =
     unknown_opened {k = 999} {M₁ = M₅} w₄ 0 (child kid 1 0) (record { picked = record { allowed = refl; meets = refl }; decides = refl }) waits_third
     (omega arith) (omega arith) (omega arith)
     (record { counts = refl; rooms = refl; shrinks = omega arith; spends = omega arith; allows = λ w. refl })
-    (model_found {k = 998} w₅ (record { picked = record { allowed = refl; meets = refl }; decides = refl }) true_third same)
+    (model_found {k = 998} w₅ (record { picked = record { allowed = refl; meets = refl }; decides = refl }) true_third same_self)
 
 pub comes_to_hand : ComesToHand
 comes_to_hand = (

@@ -1,6 +1,7 @@
 -- What the clauses of an opening and of a conflict say of a way. Assumes nothing.
 use Rattle.std.proofs.Common.{◌≡◌, ℕ, zero, suc, ◌+◌, ◌-◌, ◌*◌, ◌%◌, ◌<◌, Bool, true, false, not, ◌&&◌, ◌||◌, ◌⊎◌, List, [], ◌∷◌, ◌++◌, length, sym, refl, ap, ◌∙◌, subst, inl, inr, suc-mul, mul-suc, arith, length-append}
 use mathlib.Core.Option.{some}
+use Rattle.std.proofs.Math.Bool.{and_assoc, or_assoc, and-true, or-false}
 use Rattle.std.proofs.lemmas.Bool.{and_parts, and_from, or_cases, or_left, or_right, cases_order, eq-eqb, ne_eqb, cond-true, cond-false, false≢true}
 use Rattle.chooser.specs.Ways.{lit, some as any}
 use Rattle.judging.specs.Asked.{◌∈◌, first, later}
@@ -23,31 +24,15 @@ says_opened T w x a e = ap (says_from w x.con) e
 module _ (w : Way) where
   any_join : (xs ys : List ℕ) → any (lit w) (xs ++ ys) ≡ (any (lit w) xs || any (lit w) ys)
   any_join [] ys = refl
-  any_join (x ∷ xs) ys = ap (λ b. lit w x || b) (any_join xs ys) ∙ or_assoc (lit w x) (any (lit w) xs) (any (lit w) ys)
-    where
-      or_assoc : (a b c : Bool) → (a || (b || c)) ≡ ((a || b) || c)
-      or_assoc true b c = refl
-      or_assoc false b c = refl
+  any_join (x ∷ xs) ys = ap (λ b. lit w x || b) (any_join xs ys) ∙ sym (or_assoc (lit w x) (any (lit w) xs) (any (lit w) ys))
 
   pub all_met_join : (xs ys : List (List ℕ)) → all_met w (xs ++ ys) ≡ (all_met w xs && all_met w ys)
   all_met_join [] ys = refl
-  all_met_join (x ∷ xs) ys = ap (λ b. any (lit w) x && b) (all_met_join xs ys) ∙ and_assoc (any (lit w) x) (all_met w xs) (all_met w ys)
-    where
-      and_assoc : (a b c : Bool) → (a && (b && c)) ≡ ((a && b) && c)
-      and_assoc true b c = refl
-      and_assoc false b c = refl
-
-  or_false : (b : Bool) → (b || false) ≡ b
-  or_false true = refl
-  or_false false = refl
-
-  pub and_true : (b : Bool) → (b && true) ≡ b
-  and_true true = refl
-  and_true false = refl
+  all_met_join (x ∷ xs) ys = ap (λ b. any (lit w) x && b) (all_met_join xs ys) ∙ sym (and_assoc (any (lit w) x) (all_met w xs) (all_met w ys))
 
   some_case_is : (a m : ℕ) → any (lit w) (some_case a (suc m)) ≡ (any (lit w) (some_case a m) || w (a + m))
   some_case_is a m =
-      any_join (some_case a m) (on (a + m) ∷ []) ∙ ap (λ b. any (lit w) (some_case a m) || b) (or_false (lit w (on (a + m))) ∙ lit_on w (a + m))
+      any_join (some_case a m) (on (a + m) ∷ []) ∙ ap (λ b. any (lit w) (some_case a m) || b) (or-false (lit w (on (a + m))) ∙ lit_on w (a + m))
 
   -- at least one
   some_case_has : (a m : ℕ) → any (lit w) (some_case a m) ≡ true → (c : ℕ) × (c < m) × (w (a + c) ≡ true)
@@ -71,7 +56,7 @@ module _ (w : Way) where
 
   -- not both
   not_pair_is : (x y : ℕ) → any (lit w) (off x ∷ (off y ∷ [])) ≡ (not (w x) || not (w y))
-  not_pair_is x y = λ i. lit_off w x i || (or_false (lit w (off y)) ∙ lit_off w y) i
+  not_pair_is x y = λ i. lit_off w x i || (or-false (lit w (off y)) ∙ lit_off w y) i
 
   pair_not : (x y : Bool) → (not x || not y) ≡ true → x ≡ true → y ≡ true → ⊥
   pair_not true true e p q = false≢true e
@@ -86,7 +71,7 @@ module _ (w : Way) where
   not_with_is : (a c m : ℕ) → all_met w (not_with a c (suc m)) ≡ (all_met w (not_with a c m) && (not (w (a + m)) || not (w (a + c))))
   not_with_is a c m =
       all_met_join (not_with a c m) ((off (a + m) ∷ (off (a + c) ∷ [])) ∷ [])
-      ∙ ap (λ b. all_met w (not_with a c m) && b) (and_true (any (lit w) (off (a + m) ∷ (off (a + c) ∷ []))) ∙ not_pair_is (a + m) (a + c))
+      ∙ ap (λ b. all_met w (not_with a c m) && b) (and-true (any (lit w) (off (a + m) ∷ (off (a + c) ∷ []))) ∙ not_pair_is (a + m) (a + c))
 
   not_with_says : (a c m d : ℕ) → all_met w (not_with a c m) ≡ true → d < m → w (a + d) ≡ true → w (a + c) ≡ true → ⊥
   not_with_says a c zero d e l p q = absurd (omega (arith, l))
@@ -156,7 +141,7 @@ module _ (w : Way) where
   pub clause_is : (T : Table) (k : Conflict) → ((x : Choice) → x ∈ k.choices → (a : ℕ) × (opening T x.at ≡ some a))
       → all_met w (conflict_clause T k ∷ []) ≡ not (meets T w k)
   clause_is T k f =
-      and_true (any (lit w) (conflict_clause T k))
+      and-true (any (lit w) (conflict_clause T k))
       ∙ ap (λ b. b || any (lit w) (some_differs T k.choices)) (lit_off w k.of)
       ∙ ap (λ b. not (w k.of) || b) (some_differs_is T k.choices f) ∙ not_both (w k.of) (says_all T w k.choices)
 
@@ -172,7 +157,7 @@ some_case_length a (suc m) =
     let ih = some_case_length a m in
     omega (arith, j, ih)
 
-not_with_entries : (a c m : ℕ) → entries (not_with a c m) ≡ 3 * m
+pub not_with_entries : (a c m : ℕ) → entries (not_with a c m) ≡ 3 * m
 not_with_entries a c zero = refl
 not_with_entries a c (suc m) =
     let j = entries_join (not_with a c m) ((off (a + m) ∷ (off (a + c) ∷ [])) ∷ []) in

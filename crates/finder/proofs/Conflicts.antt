@@ -5,9 +5,8 @@ use Rattle.std.proofs.lemmas.Bool.{both_ways, and_parts, and_from, or_left, or_r
 use Rattle.syntax.specs.Problems.{Problem}
 use Rattle.judging.specs.Held.{goal}
 use Rattle.judging.specs.Paths.{Path, Decision, under}
-use Rattle.judging.specs.Explained.{All, ◌all∷◌}
 use Rattle.judging.specs.Asked.{◌∈◌, first, later}
-use Rattle.judging.proofs.Asked.{explained_decided}
+use Rattle.judging.proofs.Asked.{explained_decided, member}
 use Rattle.judging.proofs.Truth.{false_forbids}
 use Rattle.finder.specs.Tables.{Entry, Table, width}
 use Rattle.finder.specs.Ways.{Way, case_of, decided}
@@ -85,10 +84,6 @@ choices_are δ E (y ∷ T) x m = pick (has E y.path) (choices_are δ E T x) m
         → x ∈ cond b (add_choice y.path (δ y.path) (choices_of δ E T)) (choices_of δ E T) → δ x.at ≡ some x.con
     pick true ih m = go (δ y.path) refl ih m
     pick false ih m = ih m
-
-member : {Q : Path → Type 0} {u : Path} {E : List Path} → u ∈ E → All Q E → Q u
-member first (p all∷ q) = p
-member (later m) (p all∷ q) = member m q
 
 pub conflict_explained : ConflictExplained
 conflict_explained p T w g E small j =

@@ -1,14 +1,14 @@
 -- The calls of a chooser extend it, one after another. Assumes nothing.
-use Rattle.std.proofs.Common.{◌≡◌, ℕ, ◌+◌, Bool, true, false, ◌&&◌, List, [], ◌∷◌, ◌++◌, sym, refl, ap, ◌∙◌, arith}
+use Rattle.std.proofs.Common.{ℕ, ◌+◌, ◌&&◌, List, [], ◌∷◌, ◌++◌, sym, refl, ap, ◌∙◌, arith}
+use Rattle.std.proofs.Math.Bool.{and_assoc, and-true}
 use Rattle.chooser.specs.Ways.{lit, some as any}
 use Rattle.chooser.specs.Meaning.{Meaning, Same}
 use Rattle.chooser.specs.Steps.{Grown, Added}
 use Rattle.finder.specs.Clauses.{all_met, Extended, Extending}
-use Rattle.finder.proofs.Clauses.{all_met_join, and_true, entries_join}
+use Rattle.finder.proofs.Clauses.{all_met_join, entries_join}
 
-and_assoc : (a b c : Bool) → ((a && b) && c) ≡ (a && (b && c))
-and_assoc true b c = refl
-and_assoc false b c = refl
+pub same_self : {M : Meaning} → Same M M
+same_self = record { counts = refl; rooms = refl; leaves = refl; allows = λ w. refl }
 
 by_asking : (M M' : Meaning) → Same M M' → Extended M M' 0 []
 by_asking M M' s =
@@ -20,7 +20,7 @@ by_asking M M' s =
       rooms = omega (arith, r);
       shrinks = omega (arith, l);
       spends = omega (arith, l);
-      allows = λ w. s.allows w ∙ sym (and_true w (M.ways w));
+      allows = λ w. s.allows w ∙ sym (and-true (M.ways w));
     }
 
 by_variable : (M M' : Meaning) (v : ℕ) → Grown M M' v → Extended M M' 1 []
@@ -31,7 +31,7 @@ by_variable M M' v s =
       rooms = s.rooms;
       shrinks = omega (arith, l);
       spends = omega (arith, l);
-      allows = λ w. s.allows w ∙ sym (and_true w (M.ways w));
+      allows = λ w. s.allows w ∙ sym (and-true (M.ways w));
     }
 
 by_clause : (M M' : Meaning) (c : List ℕ) → Added M M' c → Extended M M' 0 (c ∷ [])
@@ -44,7 +44,7 @@ by_clause M M' c s =
       rooms = omega (arith, r);
       shrinks = s.shrinks;
       spends = omega (arith, l);
-      allows = λ w. s.allows w ∙ ap (λ b. M.ways w && b) (sym (and_true w (any (lit w) c)));
+      allows = λ w. s.allows w ∙ ap (λ b. M.ways w && b) (sym (and-true (any (lit w) c)));
     }
 
 one_by_one : (M M₁ M₂ : Meaning) (m m' : ℕ) (cs cs' : List (List ℕ)) → Extended M M₁ m cs → Extended M₁ M₂ m' cs'

@@ -13,7 +13,7 @@ use Rattle.finder.specs.Tables.{Table, paths, opening, Tabled}
 use Rattle.finder.specs.Ways.{Way, decided}
 use Rattle.finder.specs.Findings.{Finding, out_of_steps, false_goal, waiting_goal, all_true, after_waiting, after_goal, finding_from, finding}
 use Rattle.finder.specs.Claims.{FindingsStand, AwaitedInTable}
-use Rattle.finder.proofs.Tables.{not_none}
+use Rattle.depths.proofs.Finding.{not_none}
 use Rattle.finder.proofs.Ways.{decided_says, opened_decided}
 use Rattle.finder.proofs.Typed.{goal_bool}
 

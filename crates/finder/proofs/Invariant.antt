@@ -3,6 +3,7 @@ use Rattle.std.proofs.Common.{◌≡◌, ℕ, ◌+◌, ◌<◌, ◌≤◌, Bool,
 use mathlib.Core.Option.{none, some}
 use Rattle.std.proofs.lemmas.Bool.{and_parts, and_from, not-true, not_from_false}
 use Rattle.syntax.specs.Problems.{Problem}
+use Rattle.depths.proofs.Finding.{not_none}
 use Rattle.judging.specs.Paths.{Path, root, child}
 use Rattle.judging.specs.Asked.{◌∈◌, first, later}
 use Rattle.finder.specs.Tables.{cases_at, width, arity, Table, paths, opening, first_table, marked, kids_of, opened_at, Distinct, Tabled}
@@ -11,7 +12,7 @@ use Rattle.finder.specs.Clauses.{all_met, opening_clauses}
 use Rattle.finder.specs.Conflicts.{Choice, Conflict, conflict_clause}
 use Rattle.finder.specs.Invariant.{says_from, says_all, meets, Explained, Sound}
 use Rattle.finder.specs.Claims.{BeginsSound, OpeningKeeps, RecordingKeeps}
-use Rattle.finder.proofs.Tables.{not_none, same_some, in_cons, path_cases, root_not_child, root_of, parent_of, case_in, place_in, ∈_split, ∈_left, ∈_right, distinct_join, opening_join, kids_of_unopened, kids_of_are, are_kids_of, kids_of_distinct, marked_paths, marked_at, marked_off, roots_unopened, roots_are, are_roots, roots_distinct}
+use Rattle.finder.proofs.Tables.{same_some, in_cons, path_cases, root_not_child, root_of, parent_of, case_in, place_in, ∈_split, ∈_left, ∈_right, distinct_join, opening_join, kids_of_unopened, kids_of_are, are_kids_of, kids_of_distinct, marked_paths, marked_at, marked_off, roots_unopened, roots_are, are_roots, roots_distinct}
 use Rattle.finder.proofs.Clauses.{clauses_one, one_clauses, clause_is}
 
 -- conflicts whose choices are opened in both tables

@@ -6,6 +6,7 @@ use Rattle.std.proofs.lemmas.Bool.{both_ways, cases_lt, or_parts, eq-eqb, cond-t
 use Rattle.syntax.specs.Typing.{Sig, Declared, arguments}
 use Rattle.syntax.specs.Values.{Value, Values, build, v[], ◌v∷◌, OfType, of_type, OfTypes, of[], ◌of∷◌, depth, deepest}
 use Rattle.syntax.specs.Problems.{Problem, sig_of, Lawful}
+use Rattle.depths.proofs.Finding.{not_none}
 use Rattle.depths.specs.Laws.{Depths}
 use Rattle.depths.proofs.Lawfulness.{lawful_types}
 use Rattle.judging.specs.Held.{goal}
@@ -22,7 +23,7 @@ use Rattle.finder.specs.Tables.{Table, paths, opening, width, Tabled}
 use Rattle.finder.specs.Ways.{Way, decided}
 use Rattle.finder.specs.Models.{Partial, open_part, built, Partials, o[], ◌o∷◌, Shows, shows_open, shows_built, ShowsAll, s[], ◌s∷◌, ModelOf, Completes, anything, as_built, CompletesAll, c[], ◌c∷◌, Filled, nth_partial, argument_partial, part_of, head_of, replayed}
 use Rattle.finder.specs.Claims.{ModelsStand}
-use Rattle.finder.proofs.Tables.{same_some, not_none, in_table, declared_root}
+use Rattle.finder.proofs.Tables.{same_some, in_table, declared_root}
 use Rattle.finder.proofs.Ways.{decided_says}
 use Rattle.finder.proofs.Asking.{Denied, asked_denied}
 
@@ -75,7 +76,7 @@ completes_case (as_built {vs = vs} l c) = (vs, refl, c)
 pub argument_same : (c j : ℕ) (vs : Values) (o : Option Value) → o ≡ some (build c vs) → argument c j o ≡ nth vs j
 argument_same c j vs o e = ap (argument c j) e ∙ cond-true _ _ _ (eq-eqb c c refl)
 
-partial_same : (c j : ℕ) (qs : Partials) (o : Option Partial) → o ≡ some (built c qs) → argument_partial c j o ≡ nth_partial qs j
+pub partial_same : (c j : ℕ) (qs : Partials) (o : Option Partial) → o ≡ some (built c qs) → argument_partial c j o ≡ nth_partial qs j
 partial_same c j qs o e = ap (argument_partial c j) e ∙ cond-true _ _ _ (eq-eqb c c refl)
 
 -- what is reached stands in the model, and in whatever completes it

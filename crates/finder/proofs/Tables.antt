@@ -3,14 +3,11 @@ use Rattle.std.proofs.Common.{◌≡◌, ℕ, zero, suc, ◌+◌, ◌<◌, Bool,
 use mathlib.Core.Option.{Option, none, some, none-ne-some, some-injective}
 use Rattle.std.proofs.lemmas.Bool.{both_ways, eqb-true, eq-eqb, and_parts, and_from, cond-true, cond-false, false≢true}
 use Rattle.syntax.specs.Typing.{Declared}
-use Rattle.syntax.specs.Problems.{Problem, sig_of, Each, Lawful}
-use Rattle.depths.proofs.Lawfulness.{lawful_types}
+use Rattle.syntax.specs.Problems.{Problem, sig_of, Lawful}
+use Rattle.depths.proofs.Lawfulness.{each_at, lawful_types}
 use Rattle.judging.specs.Paths.{Path, root, child, type_of}
 use Rattle.judging.specs.Asked.{◌∈◌, first, later}
 use Rattle.finder.specs.Tables.{Entry, Table, paths, same_path, opening, roots_from, marked, kids_from, kids_of, Distinct, apart[], ◌apart∷◌, Tabled}
-
-pub not_none : {A B : Type 0} {a : A} {o : Option A} → o ≡ none → o ≡ some a → B
-not_none {a = a} e f = absurd (none-ne-some a (sym e ∙ f))
 
 pub same_some : {A : Type 0} {a b : A} {o : Option A} → o ≡ some a → o ≡ some b → a ≡ b
 same_some {a = a} {b = b} e f = some-injective a b (sym e ∙ f)
@@ -81,11 +78,6 @@ opening_entry (x ∷ T) y (n apart∷ d) (later m) =
     ∙ opening_entry T y d m
 
 -- types in the table are declared
-pub each_at : {A : Type 0} (P : A → Type 0) (xs : List A) (d : A) → Each P xs → (k : ℕ) → k < length xs → P (get_or xs k d)
-each_at P [] d q k l = absurd (omega (arith, l))
-each_at P (x ∷ xs) d q zero l = q.0
-each_at P (x ∷ xs) d q (suc k) l = each_at P xs d q.1 k (omega (arith, l))
-
 pub declared_root : (p : Problem) → Lawful p → (k : ℕ) → k < length p.unknowns → Declared (sig_of p) (get_or p.unknowns k 0)
 declared_root p L k l = each_at (Declared (sig_of p)) p.unknowns 0 L.of_unknowns k l
 
@@ -243,18 +235,19 @@ marked_paths u a (x ∷ T) = λ i. go (same_path x.path u) i ∷ marked_paths u 
     go true = refl
     go false = refl
 
+-- what is in a table and is not its first is in the rest
+pub not_head : (x : Entry) (u : Path) (T : Table) → same_path x.path u ≡ false → (x.path ≡ u) ⊎ (u ∈ paths T) → u ∈ paths T
+not_head x u T s (inl e) = absurd (both_ways _ s (subst (λ v. same_path x.path v ≡ true) e (same_path_self x.path)))
+not_head x u T s (inr q) = q
+
 pub marked_at : (u : Path) (a : ℕ) (T : Table) → u ∈ paths T → opening (marked u a T) u ≡ some a
 marked_at u a [] m = elim m [ ]
 marked_at u a (x ∷ T) m = go (same_path x.path u) refl (marked_at u a T)
   where
-    out : (x.path ≡ u) ⊎ (u ∈ paths T) → same_path x.path u ≡ false → u ∈ paths T
-    out (inl e) s = absurd (both_ways _ s (subst (λ v. same_path x.path v ≡ true) e (same_path_self x.path)))
-    out (inr q) s = q
-
     go : (b : Bool) → same_path x.path u ≡ b → (u ∈ paths T → opening (marked u a T) u ≡ some a)
         → opening (cond b (record { path = x.path; first = some a }) x ∷ marked u a T) u ≡ some a
     go true s ih = cond-true _ _ _ s
-    go false s ih = cond-false _ _ _ s ∙ ih (out (in_cons m) s)
+    go false s ih = cond-false _ _ _ s ∙ ih (not_head x u T s (in_cons m))
 
 pub marked_off : (u : Path) (a : ℕ) (T : Table) (v : Path) → ¬ (v ≡ u) → opening (marked u a T) v ≡ opening T v
 marked_off u a [] v n = refl

@@ -1,15 +1,17 @@
 -- A typed held term is judged to a constructor of its type: so a goal of a lawful problem is judged false or true, and no other.
 -- Assumes nothing.
-use Rattle.std.proofs.Common.{◌≡◌, ℕ, zero, suc, ◌+◌, ◌<◌, List, [], ◌∷◌, ◌++◌, map, length, get_or, sym, refl, ap, ◌∙◌, subst, arith}
+use Rattle.std.proofs.Common.{◌≡◌, ℕ, zero, suc, ◌+◌, ◌<◌, List, [], ◌∷◌, ◌++◌, length, get_or, sym, refl, ap, ◌∙◌, subst, zero-add, arith}
 use mathlib.Core.Option.{Option, none, some}
+use Rattle.std.proofs.Math.ListN.{get_or-map}
+use Rattle.std.proofs.lemmas.List.{length-map}
 use Rattle.syntax.specs.Terms.{Term, var, unknown, con, call, case, both, not, equal, Terms, t[], ◌t∷◌}
 use Rattle.syntax.specs.Typing.{Sig, cases_of, constructors, arguments, params_of, result_of, each_of, branches_of, Typed, AllTyped}
 use Rattle.syntax.specs.Problems.{Function, Problem, sig_of, Lawful, LawfulFunction, LawfulGoal}
+use Rattle.depths.proofs.Lawfulness.{each_at}
 use Rattle.judging.specs.Held.{Held, hold, free, Helds, h[], ◌h∷◌, missing, branch, no_function, body_of, bound, holds, frees, ◌h++◌, goal}
 use Rattle.judging.specs.Judging.{Head, is, waits, Verdict, same, differ, wait, Judging, Asks, of_unknown, join, negation, and_true, and_waits, truth, compared, after_subject, and_right, headed, judges, judge}
 use Rattle.judging.specs.Paths.{Path, root, child, Decision, type_of, children_from, under}
 use Rattle.judging.proofs.Runs.{Always, always_out, always_give, always_then, always_step, always_at, OnResult}
-use Rattle.finder.proofs.Tables.{each_at}
 
 always_any : {A : Type 0} (m : Judging A) → Always m (λ a. Unit {0})
 always_any {A} m = record { from = λ s. go (m s) }
@@ -17,15 +19,6 @@ always_any {A} m = record { from = λ s. go (m s) }
     go : (o : Option (A × ℕ)) → OnResult (λ a. Unit {0}) o
     go none = tt
     go (some r) = tt
-
-get_d_map : {A B : Type 0} (f : A → B) (xs : List A) (k : ℕ) (d : A) → get_or (map f xs) k (f d) ≡ f (get_or xs k d)
-get_d_map f [] k d = refl
-get_d_map f (x ∷ xs) zero d = refl
-get_d_map f (x ∷ xs) (suc k) d = get_d_map f xs k d
-
-map_length : {A B : Type 0} (f : A → B) (xs : List A) → length (map f xs) ≡ length xs
-map_length f [] = refl
-map_length f (x ∷ xs) = ap suc (map_length f xs)
 
 module _ (p : Problem) (L : Lawful p) (δ : Decision)
     (cases : (u : Path) (c : ℕ) → δ u ≡ some c → c < constructors (sig_of p) (type_of (sig_of p) u)) where
@@ -87,10 +80,7 @@ module _ (p : Problem) (L : Lawful p) (δ : Decision)
   unknown_of u ty none e f = tt
   unknown_of u ty (some c) e f =
       subst (λ x. HeadOf x (of_unknown (under p δ) u (some c))) e
-      (cases u c f, kids_of u c 0 (arguments sig (type_of sig u) c) (λ i l. ap (λ x. get_or (arguments sig (type_of sig u) c) x 0) (no_more i)))
-    where
-      no_more : (i : ℕ) → 0 + i ≡ i
-      no_more i = omega arith
+      (cases u c f, kids_of u c 0 (arguments sig (type_of sig u) c) (λ i l. ap (λ x. get_or (arguments sig (type_of sig u) c) x 0) (zero-add i)))
 
   join_head : (ty : ℕ) (E : List Path) (r : Head Path) → HeadOf ty r → HeadOf ty (join E r)
   join_head ty E (is c xs F) q = q
@@ -129,10 +119,10 @@ module _ (p : Problem) (L : Lawful p) (δ : Decision)
 
   body_typed : (f : ℕ) → f < length sig.functions → Typed sig (params_of sig f) (result_of sig f) (body_of p f)
   body_typed f l =
-      let n = map_length (λ (x : Function). x.profile) p.functions in
+      let n = length-map p.functions (λ (x : Function). x.profile) in
       let q = each_at (LawfulFunction sig) p.functions no_function L.of_functions f (omega (arith, l, n)) in
       subst (λ x. Typed sig x.params x.result (body_of p f))
-      (sym (get_d_map (λ (x : Function). x.profile) p.functions f no_function)) q.2.typed
+      (sym (get_or-map (λ (x : Function). x.profile) p.functions f no_function)) q.2.typed
 
   module _ (A : Asks Path) (S : AsksOf A) where
     subject_of : (s : List ℕ) (ty t : ℕ) (bs : Terms) (ρ : Helds Path) → AllTyped sig (branches_of s ty (cases_of sig t)) bs → Ofs s ρ

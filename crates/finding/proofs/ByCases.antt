@@ -1,5 +1,5 @@
 -- What is found by cases is what is found by the paths of the table.
-use Rattle.std.proofs.Common.{◌≡◌, ℕ, zero, suc, ◌<◌, Bool, true, cond, ◌||◌, eqb, List, [], ◌∷◌, map, length, Option, refl, sym, ap, ◌∙◌, subst, arith}
+use Rattle.std.proofs.Common.{◌≡◌, ℕ, zero, suc, ◌<◌, Bool, true, cond, List, map, length, Option, refl, sym, ap, ◌∙◌, subst, arith}
 use mathlib.Core.Option.{Option as Maybe, none, some}
 use Rattle.std.proofs.lemmas.Bool.{eqb-true}
 use Rattle.syntax.specs.Problems.{Problem, Lawful}
@@ -7,13 +7,13 @@ use Rattle.judging.specs.Held.{goal}
 use Rattle.judging.specs.Judging.{Unknowns, judge}
 use Rattle.judging.specs.Paths.{under}
 use Rattle.judging.proofs.Asked.{only_asked, goal_awaits}
-use Rattle.held.specs.Explanations.{contains, member}
+use Rattle.held.specs.Explanations.{contains}
 use Rattle.finder.specs.Tables.{width, Table, opening}
 use Rattle.finder.specs.Ways.{Way, one_of, how_many, decides_all, case_of, decided}
 use Rattle.finder.specs.Findings.{Finding as Found, out_of_steps, false_goal, waiting_goal, all_true, after_goal, finding_from, finding}
 use Rattle.finder.proofs.Tables.{opening_entry}
 use Rattle.finder.proofs.Findings.{Says, finding_says}
-use Rattle.places.specs.Places.{at, entry_at, case_in, places, named_finding, explains}
+use Rattle.places.specs.Places.{at, entry_at, case_in, places, named_finding}
 use Rattle.places.proofs.Openings.{at_entry, entry_in}
 use Rattle.places.proofs.Places.{in_range, found_by_places, conflict_by_places}
 use Rattle.unknowns.specs.Listing.{row, Stands, DecidesAs}
@@ -35,11 +35,6 @@ same_found p K L force steps same g zero = refl
 same_found p K L force steps same g (suc m) =
     let ih = same_found p K L force steps same (suc g) m in
     λ i. cond (force g) (after_goal g (same g i) (ih i)) (ih i)
-
--- a set that explains, at the places of a table
-marks : (E : List ℕ) (i : ℕ) → member E i ≡ explains E i
-marks [] i = refl
-marks (u ∷ E) i = ap (λ b. eqb u i || b) (marks E i)
 
 module _ (p : Problem) (L : Lawful p) (t : Code) (T : Table) (count : ℕ) (w : Way) (cases : List (Option Case))
     (stands : Stands p t T count) (decides : DecidesAs p t T w cases) (force : ℕ → Bool) (steps : ℕ) where
@@ -80,7 +75,7 @@ module _ (p : Problem) (L : Lawful p) (t : Code) (T : Table) (count : ℕ) (w : 
       let inside = q.0 in
       let c =
       conflict_by_places p L T count kids w stands.tabled stands.lists.placed force steps g E (by_places ∙ s.1) (contains words)
-      (λ i l. s.2.has i (let most = few p t T count w stands in omega (arith, l, most)) ∙ marks E i) in
+      (λ i l. s.2.has i (let most = few p t T count w stands in omega (arith, l, most))) in
       (map (at T) E, by_paths (false_goal g E) s.1, c.0, c.1, omega (arith, inside))
   finds words (Waiting i) all s =
       let q = subst (Says p K force steps 0 (length p.goals)) (by_places ∙ s.1) (finding_says p K force steps 0 (length p.goals)) in

@@ -2,12 +2,6 @@
 use Rattle.std.proofs.Common.{ℕ, zero, suc, ◌≤◌, List, [], ◌∷◌, map, length, get_or, arith}
 use Rattle.syntax.specs.Typing.{Sig, no_profile, arguments, params_of}
 use Rattle.syntax.specs.Problems.{Function, Problem as Meaning, Lawful, LawfulType, LawfulFunction, FewTypes, Each, bool, sig_of}
-use Rattle.problem.specs.declared.problem.Problem.{Problem}
-use Rattle.problem.specs.Meant.{held, meant}
-use Rattle.problem.proofs.Lawfulness.{is_encoded}
-
-pub lawful : (p : Problem) → Lawful (meant p)
-lawful p = (is_encoded (held p) p.holds.accepted p.holds.written).lawful
 
 few_in : (sig : Sig) (cs : List (List ℕ)) (c : ℕ) → Each (FewTypes sig) cs → length (get_or cs c []) ≤ 6
 few_in sig [] c e = omega arith

@@ -15,7 +15,8 @@ use Rattle.judging.specs.Held.{branch, missing}
 use Rattle.held.specs.Reading.{Text, Reads}
 use Rattle.judge.specs.Texts.{text_of, sig_in, ReadsAll, tlength}
 use Rattle.judge.specs.Views.{Shows}
-use Rattle.judge.proofs.Limits.{arguments_few, params_few, lawful}
+use Rattle.problem.proofs.Lawfulness.{lawful}
+use Rattle.judge.proofs.Limits.{arguments_few, params_few}
 
 pub reads : {x : Text} {place : ℕ} {w : Want} {t : Term} → StandsAt (sig_in x) x.bytes place w t → Reads x place t
 reads {x} {place} {w} {t} s = record { scope = w.scope; ty = w.ty; others = s.others; here = s.is; typed = s.has }

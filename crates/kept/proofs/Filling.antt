@@ -17,7 +17,8 @@ use Rattle.depths.specs.Least.{Leasts}
 use Rattle.verdict.specs.Verdict.{verdict, problem_in, term_in, bodies_in, goals_in, terms_in}
 use Rattle.verdict.specs.declared.workspace.Workspace.{Workspace}
 use Rattle.verdict.specs.Examined.{Accepted}
-use Rattle.verdict.proofs.Results.{was_ok, term_was}
+use Rattle.records.proofs.Results.{was_ok}
+use Rattle.verdict.proofs.Results.{term_was}
 use Rattle.verdict.proofs.Bodies.{with_body, bodies_sound}
 use Rattle.kept.specs.Layout.{read_from, sig_from, body_from, goal_from, body_places, goal_places}
 use Rattle.kept.specs.Filled.{Filled, Holds, Fronts}

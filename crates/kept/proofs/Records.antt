@@ -6,7 +6,7 @@ use Rattle.syntax.specs.Problems.{Function, Problem, concat, encode_type, encode
 use Rattle.records.specs.Raw.{Raw, write, write_function}
 use Rattle.tables.specs.Tabled.{declared_by, functions_start, goals_start}
 use Rattle.verdict.specs.Verdict.{bodies_in, goals_in, terms_in}
-use Rattle.verdict.proofs.Results.{was_ok}
+use Rattle.records.proofs.Results.{was_ok}
 use Rattle.verdict.proofs.Bodies.{bodies_sound, goals_sound}
 
 -- terms that are read have the bytes of the records

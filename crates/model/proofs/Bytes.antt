@@ -5,19 +5,13 @@ use Rattle.syntax.specs.declared.faults.Fault.{Fault}
 use Rattle.syntax.specs.declared.faults.Reason.TheVariants.{PastEnd, BadTerm}
 use Rattle.syntax.specs.Faults.{fault}
 use Rattle.syntax.specs.Typing.{Sig, constructors}
-use Rattle.model.specs.Reading.{and_then, there, right, top_of}
+use Rattle.records.proofs.Results.{never_ok}
+use Rattle.model.specs.Reading.{there, right, top_of}
 use Rattle.model.proofs.Roots.{first}
-
-never : {A B : Type 0} (e : Fault) (x : A) → ◌≡◌ {A = Result A Fault} (Err e) (Ok x) → B
-never e x h = let z : ◌≡◌ {A = ℕ} 0 1 = cc in absurd (omega arith)
-
-pub was_ok : {A B : Type 0} (r : Result A Fault) (f : A → Result B Fault) (y : B) → and_then r f ≡ Ok y → (x : A) × (r ≡ Ok x) × (f x ≡ Ok y)
-was_ok (Ok x) f y h = (x, refl, h)
-was_ok (Err e) f y h = never e y h
 
 pub cond_ok : {A : Type 0} (b : Bool) (r : Result A Fault) (e : Fault) (y : A) → cond b r (Err e) ≡ Ok y → (b ≡ true) × (r ≡ Ok y)
 cond_ok true r e y h = (refl, h)
-cond_ok false r e y h = never e y h
+cond_ok false r e y h = never_ok h
 
 pub was_there : {A : Type 0} (bs : List ℕ) (mark p : ℕ) (r : Result A Fault) (y : A) → there bs mark p r ≡ Ok y → (p < length bs) × (r ≡ Ok y)
 was_there bs mark p r y h =

@@ -1,17 +1,13 @@
 -- One step of reading a value at a time.
-use Rattle.std.proofs.Common.{◌≡◌, ℕ, zero, suc, ◌+◌, ◌-◌, ◌<◌, ◌≤◌, Bool, cond, List, [], ◌∷◌, length, get_or, drop, Some, None, Ok, Err, Option, Result, sym, refl, ap, ◌∙◌, add-one, sub-one, arith, drop-cons}
+use Rattle.std.proofs.Common.{◌≡◌, ℕ, zero, suc, ◌+◌, ◌-◌, ◌<◌, ◌≤◌, Bool, cond, List, ◌∷◌, length, get_or, drop, Some, None, Ok, Err, Option, Result, sym, ap, ◌∙◌, add-one, sub-one, arith, drop-cons}
 use Rattle.std.proofs.lemmas.Bool.{le-ltb}
+use Rattle.std.proofs.lemmas.List.{drop_all}
 use Rattle.syntax.specs.declared.faults.Fault.{Fault}
 use Rattle.syntax.specs.declared.faults.Reason.TheVariants.{PastEnd}
 use Rattle.syntax.specs.Faults.{fault}
 use Rattle.syntax.specs.Typing.{Sig, arguments}
-use Rattle.model.specs.Reading.{and_then, there, ends, top_of, end_by, value_end}
-
-pub drop_none : (n : ℕ) (xs : List ℕ) → length xs ≤ n → drop n xs ≡ []
-drop_none zero [] h = refl
-drop_none zero (x ∷ xs) h = absurd (omega arith)
-drop_none (suc n) [] h = refl
-drop_none (suc n) (x ∷ xs) h = drop_none n xs (omega arith)
+use Rattle.records.specs.Reading.{and_then}
+use Rattle.model.specs.Reading.{there, ends, top_of, end_by, value_end}
 
 past_there : {A : Type 0} (bs : List ℕ) (mark p : ℕ) (r : Result A Fault) → length bs ≤ p → there bs mark p r ≡ Err (fault PastEnd mark)
 past_there bs mark p r h = ap (λ (b : Bool). cond b r (Err (fault PastEnd mark))) (le-ltb p (length bs) h)
@@ -44,7 +40,7 @@ module _ (n : ℕ) (sig : Sig) (bs : List ℕ) (mark t p : ℕ) (deep : length b
 
 module _ (one : ℕ → ℕ → Result ℕ Fault) (types : List ℕ) (next p : ℕ) where
   pub ends_none : length types ≤ next → Ok p ≡ ends one (drop next types) p
-  ends_none h = ap (λ (ts : List ℕ). ends one ts p) (sym (drop_none next types h))
+  ends_none h = ap (λ (ts : List ℕ). ends one ts p) (sym (drop_all next types h))
 
   first : next < length types → get_or types next 0 ∷ drop (next + 1) types ≡ drop next types
   first h = ap (λ i. get_or types next 0 ∷ drop i types) (add-one next) ∙ sym (drop-cons types next 0 h)

@@ -1,23 +1,23 @@
 -- Bytes are read exactly if they write a model: what was read is written there, and what is written is read.
 use Rattle.std.proofs.Common.{◌≡◌, ℕ, zero, suc, ◌+◌, ◌≤◌, Bool, true, false, cond, ◌&&◌, eqb, ltb, leb, List, [], ◌∷◌, ◌++◌, length, get_or, drop, Some, None, Ok, Err, Option, Result, sym, refl, ap, ◌∙◌, append_assoc, arith, length-append, length-drop}
-use Rattle.std.proofs.lemmas.List.{drop-drop, drop_at}
+use Rattle.std.proofs.lemmas.List.{drop_all}
 use Rattle.std.proofs.lemmas.Bool.{ltb-false, lt-ltb, le-ltb, eqb-true, eq-eqb, leb-true, le-leb, and_parts, and_from}
 use Rattle.syntax.specs.declared.faults.Fault.{Fault}
 use Rattle.syntax.specs.declared.faults.Reason.TheVariants.{TooLong, NoMark, BadTerm, BytesAfter}
 use Rattle.syntax.specs.Faults.{fault}
 use Rattle.syntax.specs.Typing.{Sig, arguments}
 use Rattle.syntax.specs.Problems.{sig_of}
+use Rattle.records.specs.Reading.{and_then}
+use Rattle.records.proofs.Results.{was_ok}
+use Rattle.ends.proofs.Ending.{past_part}
 use Rattle.model.specs.Partial.{Partial, open_part, built, Partials, p[], ◌p∷◌, OfType, OfTypes, written, all_written, encode_from}
-use Rattle.model.specs.Reading.{and_then, there, right, ends, top_of, end_by, value_end, marked, start_of, preceded, places_from}
+use Rattle.model.specs.Reading.{there, right, ends, top_of, end_by, value_end, marked, start_of, preceded, places_from}
 use Rattle.model.specs.Exact.{ReadingIsExact}
-use Rattle.model.proofs.Ends.{drop_none, value_open, value_built}
-use Rattle.model.proofs.Bytes.{was_ok, cond_ok, was_there, is_there, is_right, at_byte, three, TopAt, top_sound, top_open, top_built}
+use Rattle.model.proofs.Ends.{value_open, value_built}
+use Rattle.model.proofs.Bytes.{cond_ok, was_there, is_there, is_right, at_byte, three, TopAt, top_sound, top_open, top_built}
 
 ok_is : {A : Type 0} (x y : A) → ◌≡◌ {A = Result A Fault} (Ok x) (Ok y) → x ≡ y
 ok_is x y h = cc
-
-pub past_part : (bs : List ℕ) (p : ℕ) (xs ys : List ℕ) → drop p bs ≡ xs ++ ys → drop (p + length xs) bs ≡ ys
-past_part bs p xs ys e = sym (drop-drop (length xs) p bs) ∙ ap (drop (length xs)) e ∙ drop_at xs ys (length xs) refl
 
 module _ (sig : Sig) (bs : List ℕ) where
   -- a value of the type t is written from p to q
@@ -31,7 +31,7 @@ module _ (sig : Sig) (bs : List ℕ) where
       → (ts : List ℕ) (p q : ℕ) → ends one ts p ≡ Ok q → ValuesIn ts p q
   ends_sound one sound [] p q h = (p[], tt, ap (λ i. drop i bs) (ok_is p q h))
   ends_sound one sound (t ∷ ts) p q h =
-      let w = was_ok (one t p) (ends one ts) q h in
+      let w = was_ok (one t p) (ends one ts) h in
       let v = sound t p w.0 w.1 in
       let vs = ends_sound one sound ts w.0 q w.2 in (
         v.0 p∷ vs.0,
@@ -50,7 +50,7 @@ module _ (sig : Sig) (bs : List ℕ) where
   unfolding value_end
   value_sound zero mark t p q h = let z : ◌≡◌ {A = ℕ} 0 1 = cc in absurd (omega arith)
   value_sound (suc n) mark t p q h =
-      let w = was_ok (top_of sig bs mark t p) (end_by (value_end n sig bs mark) sig t p) q h in
+      let w = was_ok (top_of sig bs mark t p) (end_by (value_end n sig bs mark) sig t p) h in
       by_top (value_end n sig bs mark) mark t p q w.0 (value_sound n mark) (top_sound sig bs mark t p w.0 w.1) w.2
 
   mutual
@@ -128,11 +128,11 @@ module _ (sig : Sig) (bs : List ℕ) where
 
   places_sound : (k : ℕ) (ts : List ℕ) (p : ℕ) (roots : List ℕ) → places_from sig bs k ts p ≡ Ok roots
       → (vs : Partials) × OfTypes sig ts vs × (drop p bs ≡ encode_from sig k ts vs)
-  places_sound k [] p roots h = (p[], tt, drop_none p bs (ltb-false p (length bs) (at_end (ltb p (length bs)) p roots h)))
+  places_sound k [] p roots h = (p[], tt, drop_all p bs (ltb-false p (length bs) (at_end (ltb p (length bs)) p roots h)))
   places_sound k (t ∷ ts) p roots h =
-      let a = was_ok (start_of bs k p) (λ v. and_then (value_end (length bs) sig bs p t v) (λ q. preceded v (places_from sig bs (k + 1) ts q))) roots h in
+      let a = was_ok (start_of bs k p) (λ v. and_then (value_end (length bs) sig bs p t v) (λ q. preceded v (places_from sig bs (k + 1) ts q))) h in
       let s = start_sound k p a.0 a.1 in
-      let b = was_ok (value_end (length bs) sig bs p t a.0) (λ q. preceded a.0 (places_from sig bs (k + 1) ts q)) roots a.2 in
+      let b = was_ok (value_end (length bs) sig bs p t a.0) (λ q. preceded a.0 (places_from sig bs (k + 1) ts q)) a.2 in
       let v = value_sound (length bs) p t a.0 b.0 b.1 in
       let c = preceded_ok a.0 (places_from sig bs (k + 1) ts b.0) roots b.2 in
       let vs = places_sound (k + 1) ts b.0 c.0 c.1 in (

@@ -1,12 +1,13 @@
 -- One record of model bytes at a time.
 use Rattle.std.proofs.Common.{◌≡◌, ℕ, ◌+◌, ◌<◌, ◌≤◌, Bool, cond, List, [], ◌∷◌, ◌++◌, length, get_or, drop, Ok, Err, Result, sym, refl, ap, ◌∙◌, add-one, arith, drop-cons}
 use Rattle.std.proofs.lemmas.Bool.{lt-ltb, le-ltb}
+use Rattle.std.proofs.lemmas.List.{drop_all}
 use Rattle.syntax.specs.declared.faults.Fault.{Fault}
 use Rattle.syntax.specs.declared.faults.Reason.TheVariants.{BytesAfter}
 use Rattle.syntax.specs.Faults.{fault}
 use Rattle.syntax.specs.Typing.{Sig}
-use Rattle.model.specs.Reading.{and_then, value_end, start_of, preceded, places_from}
-use Rattle.model.proofs.Ends.{drop_none}
+use Rattle.records.specs.Reading.{and_then}
+use Rattle.model.specs.Reading.{value_end, start_of, preceded, places_from}
 
 pub first : (xs : List ℕ) (i : ℕ) → i < length xs → drop i xs ≡ get_or xs i 0 ∷ drop (i + 1) xs
 first xs i h = drop-cons xs i 0 h ∙ ap (λ j. get_or xs i 0 ∷ drop j xs) (sym (add-one i))
@@ -36,7 +37,7 @@ pub record Rooted (sig : Sig) (bs types roots : List ℕ) (k p : ℕ) : Type 0 w
 
 module _ {sig : Sig} {bs types roots : List ℕ} {k p : ℕ} (so_far : Rooted sig bs types roots k p) where
   at_end : length types ≤ k → places_from sig bs k (drop k types) p ≡ places_from sig bs k [] p
-  at_end h = ap (λ (ts : List ℕ). places_from sig bs k ts p) (drop_none k types h)
+  at_end h = ap (λ (ts : List ℕ). places_from sig bs k ts p) (drop_all k types h)
 
   pub rooted_after : length types ≤ k → p < length bs → places_from sig bs 0 types 0 ≡ Err (fault BytesAfter p)
   rooted_after h lt =

@@ -5,10 +5,7 @@ use Rattle.syntax.specs.declared.faults.Reason.TheVariants.{TooLong, NoMark, Pas
 use Rattle.syntax.specs.Faults.{fault}
 use Rattle.syntax.specs.Typing.{Sig, constructors, arguments}
 use Rattle.syntax.specs.Problems.{Problem, sig_of}
-
-abbrev pub and_then : {A B : Type 0} → Result A Fault → (A → Result B Fault) → Result B Fault
-and_then (Ok x) f = f x
-and_then (Err e) f = Err e
+use Rattle.records.specs.Reading.{and_then}
 
 -- The byte at a place is looked at; a record that lacks it goes past the end, at its mark.
 abbrev pub there : {A : Type 0} → List ℕ → ℕ → ℕ → Result A Fault → Result A Fault

@@ -1,12 +1,14 @@
 -- A replay of a written model judges as the model does: each path that judging asks for is named by the place of its part in the
 -- bytes, and the byte there decides it as the model does.
-use Rattle.std.proofs.Common.{◌≡◌, ℕ, zero, suc, ◌+◌, ◌*◌, ◌≤◌, Bool, true, false, cond, eqb, ltb, leb, List, [], ◌∷◌, ◌++◌, map, length, get_or, drop, Ok, Err, Result, refl, sym, ap, ◌∙◌, subst, arith, drop-cons}
-use Rattle.std.proofs.lemmas.Bool.{and_from, lt-ltb, le-leb, eq-eqb, cond-true}
+use Rattle.std.proofs.Common.{◌≡◌, ℕ, zero, suc, ◌+◌, ◌*◌, Bool, true, false, cond, eqb, ltb, leb, List, [], ◌∷◌, ◌++◌, map, length, get_or, drop, Ok, Err, Result, refl, sym, ap, ◌∙◌, subst, arith, drop-cons}
+use Rattle.std.proofs.lemmas.List.{drop_all}
+use Rattle.std.proofs.lemmas.Bool.{and_from, lt-ltb, le-leb, eq-eqb}
 use mathlib.Core.Option.{Option, none, some, some-injective, none-ne-some}
 use Rattle.syntax.specs.declared.faults.Reason.TheVariants.{TooLong}
 use Rattle.syntax.specs.Faults.{fault}
 use Rattle.syntax.specs.Typing.{Sig, arguments}
 use Rattle.syntax.specs.Problems.{Problem, sig_of, Lawful}
+use Rattle.records.proofs.Results.{never_ok}
 use Rattle.judging.specs.Held.{goal}
 use Rattle.judging.specs.Judging.{Unknowns, judge}
 use Rattle.judging.specs.Paths.{Path, root, child, Decision, type_of, children_from, under}
@@ -21,7 +23,8 @@ use Rattle.judging.proofs.Reached.{asked_paths}
 use Rattle.judge.specs.Outcomes.{outcome, byte_of}
 use Rattle.finder.specs.Tables.{Table}
 use Rattle.finder.specs.Ways.{Way, decided}
-use Rattle.finder.specs.Models.{Partial, open_part, built, Partials, o[], ◌o∷◌, Shows, shows_built, ShowsAll, ◌s∷◌, argument_partial, nth_partial, part_of, head_of, replayed}
+use Rattle.finder.specs.Models.{Partial, open_part, built, Partials, o[], ◌o∷◌, Shows, shows_built, ShowsAll, ◌s∷◌, part_of, head_of, replayed}
+use Rattle.finder.proofs.Models.{partial_same}
 use Rattle.finder.proofs.Ways.{decided_says}
 use Rattle.model.specs.Partial.{OfType, OfTypes, all_written}
 use Rattle.model.specs.Reading.{places_from, reading, value_end}
@@ -103,9 +106,6 @@ built_of o q c e f = go q (sym (ap head_of e) ∙ f)
     go open_part g = absurd (none-ne-some c g)
     go (built d qs) g = (qs, ap (λ x. built x qs) (some-injective d c g))
 
-partial_same : (c j : ℕ) (qs : Partials) (o : Option Partial) → o ≡ some (built c qs) → argument_partial c j o ≡ nth_partial qs j
-partial_same c j qs o e = ap (argument_partial c j) e ∙ cond-true _ _ _ (eq-eqb c c refl)
-
 module _ (p : Problem) (lawful : Lawful p) (qs : Partials) (bs : List ℕ) (roots : List ℕ) (sited : Sited (sig_of p) bs p.unknowns qs roots) where
   abbrev sig : Sig
   sig = sig_of p
@@ -152,13 +152,7 @@ module _ (p : Problem) (lawful : Lawful p) (qs : Partials) (bs : List ℕ) (root
       }
 
   kids_named : (u : Path) (c j n : ℕ) → length (K.kids (name u) c) ≡ j + n → map name (children_from u c j n) ≡ drop j (K.kids (name u) c)
-  kids_named u c j zero e = sym (none_left (K.kids (name u) c) j (omega (arith, e)))
-    where
-      none_left : (xs : List ℕ) (j : ℕ) → length xs ≤ j → drop j xs ≡ []
-      none_left [] zero l = refl
-      none_left [] (suc j) l = refl
-      none_left (x ∷ xs) zero l = absurd (omega (arith, l))
-      none_left (x ∷ xs) (suc j) l = none_left xs j (omega (arith, l))
+  kids_named u c j zero e = sym (drop_all j (K.kids (name u) c) (omega (arith, e)))
   kids_named u c j (suc n) e =
       ap (λ xs. get_or (K.kids (name u) c) j 0 ∷ xs) (kids_named u c (suc j) n (omega (arith, e)))
       ∙ sym (drop-cons (K.kids (name u) c) j 0 (omega (arith, e)))
@@ -213,7 +207,4 @@ replay_answers_lem p bytes force steps places before after r t some_steps few_st
     go (Ok u) s =
         let same : s.0 ≡ t.roots = ok_is s.0 t.roots (sym s.1 ∙ taken) in
         (refl, λ g l e. s.2 g l ∙ ap (λ roots. answer_of p (decided_by p bytes roots) steps g) same ∙ t.answers g l e)
-    go (Err e) s = never (sym s.0 ∙ taken)
-      where
-        never : {roots : List ℕ} {B : Type 0} → ◌≡◌ {A = Result (List ℕ) ReplayFault} (Err e) (Ok roots) → B
-        never h = let z : ◌≡◌ {A = ℕ} 0 1 = cc in absurd (omega arith)
+    go (Err e) s = never_ok (sym s.0 ∙ taken)

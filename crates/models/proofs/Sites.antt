@@ -9,9 +9,11 @@ use Rattle.syntax.specs.Faults.{fault}
 use Rattle.syntax.specs.Typing.{Sig}
 use Rattle.finder.specs.Models.{Partial, Partials, o[], ◌o∷◌, nth_partial}
 use Rattle.model.specs.Partial.{OfType, OfTypes, all_written, encode_from}
-use Rattle.model.specs.Reading.{and_then, value_end, preceded, places_from}
+use Rattle.records.specs.Reading.{and_then}
+use Rattle.model.specs.Reading.{value_end, preceded, places_from}
 use Rattle.model.specs.Places.{or_stay, starts_from}
-use Rattle.model.proofs.Exactness.{past_part, value_complete, start_complete}
+use Rattle.ends.proofs.Ending.{past_part}
+use Rattle.model.proofs.Exactness.{value_complete, start_complete}
 use Rattle.models.specs.Models.{part, parts, written_value}
 
 module _ (sig : Sig) (bs : List ℕ) where

@@ -8,7 +8,8 @@ use Rattle.judging.specs.Paths.{Path, child, Decision, type_of}
 use Rattle.finder.specs.Tables.{cases_at}
 use Rattle.finder.specs.Ways.{decided}
 use Rattle.finder.specs.Models.{Partial, open_part, built, Partials, o[], Shows, shows_open, shows_built, ShowsAll}
-use Rattle.finder.proofs.Tables.{not_none, same_some}
+use Rattle.depths.proofs.Finding.{not_none}
+use Rattle.finder.proofs.Tables.{same_some}
 use Rattle.places.specs.Places.{at, entry_at, offset, case_in}
 use Rattle.places.proofs.Places.{own_case, kid_at}
 use Rattle.unknowns.specs.Listing.{row, CaseOf, CaseAs}

@@ -8,7 +8,8 @@ use Rattle.syntax.specs.Problems.{Problem}
 use Rattle.judging.specs.Paths.{Path, root, child}
 use Rattle.judging.specs.Asked.{◌∈◌, first, later}
 use Rattle.finder.specs.Tables.{cases_at, width, arity, Entry, Table, paths, same_path, opening, closed_entry, roots_from, marked, kids_from, kids_of, opened_at, Distinct, ◌apart∷◌, Tabled}
-use Rattle.finder.proofs.Tables.{not_none, in_table, path_cases, same_path_self, same_path_not, opening_join, kids_of_unopened, kids_of_are, marked_paths, marked_off, roots_unopened}
+use Rattle.depths.proofs.Finding.{not_none}
+use Rattle.finder.proofs.Tables.{in_table, path_cases, same_path_self, same_path_not, opening_join, kids_of_unopened, kids_of_are, marked_paths, marked_off, roots_unopened}
 use Rattle.places.specs.Places.{at, entry_at, offset, births, Placed, Appends}
 use Rattle.places.specs.Claims.{BeginsPlaced, OpeningPlaces}
 

@@ -1,16 +1,17 @@
 -- The places of a table name its paths, so judging by places is judging by paths. Assumes nothing.
-use Rattle.std.proofs.Common.{◌≡◌, ℕ, zero, suc, ◌+◌, ◌<◌, ◌≤◌, Bool, true, false, cond, ◌||◌, eqb, ◌⊎◌, List, [], ◌∷◌, map, length, sym, refl, ap, ◌∙◌, subst, inl, inr, arith}
+use Rattle.std.proofs.Common.{◌≡◌, ℕ, zero, suc, ◌+◌, ◌<◌, ◌≤◌, Bool, true, false, cond, ◌||◌, eqb, ◌⊎◌, List, [], ◌∷◌, map, length, sym, refl, ap, ◌∙◌, subst, inl, inr, zero-add, arith}
 use mathlib.Core.Option.{Option, none, some, none-ne-some}
 use Rattle.std.proofs.lemmas.Bool.{cases_lt, cases_eq, eq-eqb, ne_eqb}
 use Rattle.syntax.specs.Problems.{Problem}
 use Rattle.judging.specs.Held.{goal}
 use Rattle.judging.specs.Judging.{Unknowns, Head, is, waits, judge}
 use Rattle.judging.specs.Paths.{Path, root, child, Decision, children_from, under}
-use Rattle.judging.specs.Explained.{All, all[], ◌all∷◌}
+use Rattle.judging.specs.Explained.{All, ◌all∷◌}
 use Rattle.judging.specs.Asked.{◌∈◌, first, later, Asked, asked_root, asked_kid}
 use Rattle.judging.specs.Names.{named_head, result, Names}
-use Rattle.judging.proofs.Asked.{goal_asked}
+use Rattle.judging.proofs.Asked.{all_map, goal_asked}
 use Rattle.judging.proofs.Names.{by_names}
+use Rattle.held.specs.Explanations.{member}
 use Rattle.finder.specs.Tables.{cases_at, width, arity, Entry, Table, paths, same_path, opening, closed_entry, Tabled}
 use Rattle.finder.specs.Ways.{Way, case_of, decided}
 use Rattle.finder.specs.Clauses.{off}
@@ -20,7 +21,7 @@ use Rattle.finder.proofs.Tables.{in_cons, same_path_self, same_path_not, opening
 use Rattle.finder.proofs.Ways.{decided_says}
 use Rattle.finder.proofs.Conflicts.{choices_are}
 use Rattle.finder.proofs.Findings.{Says, finding_says}
-use Rattle.places.specs.Places.{at, entry_at, offset, Placed, from, case_in, places, named_finding, explains, differing, marked_literals}
+use Rattle.places.specs.Places.{at, entry_at, offset, Placed, from, case_in, places, named_finding, differing, marked_literals}
 use Rattle.places.specs.Claims.{PlacesName, FoundByPlaces, ConflictByPlaces}
 use Rattle.places.proofs.Openings.{length_paths, at_entry, entry_in, one_place}
 
@@ -94,13 +95,10 @@ module _ (p : Problem) (T : Table) (count : ℕ) (kids : ℕ → ℕ) (w : Way) 
       → map (at T) (from (kids i + offset (cases_at p (at T i)) c) (arity p (at T i) c)) ≡ children_from (at T i) c 0 (arity p (at T i) c)
   kids_named i c e =
       from_named (at T i) c _ 0 _
-      (λ t m. ap (at T) (assoc (kids i) (offset (cases_at p (at T i)) c) t) ∙ (kid_at i c t e m).1 ∙ ap (child (at T i) c) (zero_more t))
+      (λ t m. ap (at T) (assoc (kids i) (offset (cases_at p (at T i)) c) t) ∙ (kid_at i c t e m).1 ∙ ap (child (at T i) c) (sym (zero-add t)))
     where
       assoc : (a b t : ℕ) → a + b + t ≡ a + (b + t)
       assoc a b t = omega arith
-
-      zero_more : (t : ℕ) → t ≡ 0 + t
-      zero_more t = omega arith
 
   names : Names p K (at T) (decided p T w)
   names =
@@ -159,11 +157,11 @@ same_place T count p tab m i k l = go (cases_eq m i)
         (λ q. e (one_place (paths T) m i (root 0) tab.distinct (omega (arith, k, len)) (omega (arith, l, len)) q))
         ∙ sym (ne_eqb m i e)
 
-explains_has : (T : Table) (count : ℕ) (p : Problem) → Tabled p T count → (E : List ℕ) → All (λ m. m < length T) E → (i : ℕ) → i < length T
-    → has (map (at T) E) (at T i) ≡ explains E i
-explains_has T count p tab [] q i l = refl
-explains_has T count p tab (m ∷ E) (k all∷ q) i l =
-    λ x. same_place T count p tab m i k l x || explains_has T count p tab E q i l x
+member_has : (T : Table) (count : ℕ) (p : Problem) → Tabled p T count → (E : List ℕ) → All (λ m. m < length T) E → (i : ℕ) → i < length T
+    → has (map (at T) E) (at T i) ≡ member E i
+member_has T count p tab [] q i l = refl
+member_has T count p tab (m ∷ E) (k all∷ q) i l =
+    λ x. same_place T count p tab m i k l x || member_has T count p tab E q i l x
 
 differs_as : (f : Option ℕ) (c : ℕ) (ls : List ℕ) → differs c f ls ≡ differing f (some c) ls
 differs_as none c ls = refl
@@ -226,10 +224,6 @@ each_differs T [] f = refl
 each_differs T (x ∷ xs) f =
     ap (λ o. length (differs x.con o (some_differs T xs))) (f x first).1 ∙ ap suc (each_differs T xs (λ y m. f y (later m)))
 
-in_ranges : {Q R : ℕ → Type 0} {E : List ℕ} → ((m : ℕ) → Q m → R m) → All Q E → All R E
-in_ranges f all[] = all[]
-in_ranges f (◌all∷◌ {u = u} q r) = f u q all∷ in_ranges f r
-
 pub conflict_by_places : ConflictByPlaces
 conflict_by_places p L T count kids w tab pl force steps g E e marks m = (ap (◌∷◌ (off g)) same, sym lengths ∙ ap length same)
   where
@@ -239,7 +233,7 @@ conflict_by_places p L T count kids w tab pl force steps g E e marks m = (ap (�
     inside : All (λ i. i < length T) E
     inside =
         let q = subst (Says p (places p T kids w) force steps 0 (length p.goals)) e (finding_says p (places p T kids w) force steps 0 (length p.goals)) in
-        in_ranges (λ i a. in_range p T count kids w tab pl a.0)
+        all_map (λ i a. in_range p T count kids w tab pl a.0)
         (goal_asked ℕ p L (places p T kids w) g steps q.3 0 q.2 E q.4)
 
     same : some_differs T (choices_of (decided p T w) (map (at T) E) T) ≡ marked_literals p w marks 0 T
@@ -249,11 +243,8 @@ conflict_by_places p L T count kids w tab pl force steps g E e marks m = (ap (�
         record {
           opens = entry_opening p T count kids w tab pl j l;
           decides = ap (decided p T w) (sym (at_entry T j)) ∙ own_case p T count kids w tab pl j l;
-          mark = ap marks (zero_more j) ∙ m j l ∙ sym (explains_has T count p tab E inside j l) ∙ ap (has (map (at T) E)) (at_entry T j);
+          mark = ap marks (zero-add j) ∙ m j l ∙ sym (member_has T count p tab E inside j l) ∙ ap (has (map (at T) E)) (at_entry T j);
         })
-      where
-        zero_more : (j : ℕ) → 0 + j ≡ j
-        zero_more j = omega arith
 
     lengths : length (some_differs T (choices_of (decided p T w) (map (at T) E) T)) ≡ length (choices_of (decided p T w) (map (at T) E) T)
     lengths =

@@ -5,12 +5,13 @@ use Rattle.std.proofs.Math.Option.{none}
 use Rattle.syntax.specs.Problems.{Problem, Lawful}
 use Rattle.judging.specs.Paths.{under}
 use Rattle.judging.specs.Names.{Names}
+use Rattle.held.specs.Explanations.{member}
 use Rattle.finder.specs.Tables.{Table, opening, first_table, opened_at, Tabled}
 use Rattle.finder.specs.Ways.{Way, decided}
 use Rattle.finder.specs.Clauses.{off}
 use Rattle.finder.specs.Conflicts.{conflict, conflict_clause}
 use Rattle.finder.specs.Findings.{finding, false_goal}
-use Rattle.places.specs.Places.{at, Placed, places, named_finding, explains, marked_literals, Appends}
+use Rattle.places.specs.Places.{at, Placed, places, named_finding, marked_literals, Appends}
 
 -- the places name the paths of the table
 abbrev pub PlacesName : Type 0
@@ -31,7 +32,7 @@ abbrev pub ConflictByPlaces : Type 0
 ConflictByPlaces =
     (p : Problem) → Lawful p → (T : Table) (count : ℕ) (kids : ℕ → ℕ) (w : Way) → Tabled p T count → Placed p T kids
     → (force : ℕ → Bool) (steps g : ℕ) (E : List ℕ) → finding p (places p T kids w) force steps ≡ false_goal g E
-    → (marks : ℕ → Bool) → ((i : ℕ) → i < length T → marks i ≡ explains E i)
+    → (marks : ℕ → Bool) → ((i : ℕ) → i < length T → marks i ≡ member E i)
     → (conflict_clause T (conflict p T w g (map (at T) E)) ≡ off g ∷ marked_literals p w marks 0 T)
     × (length (conflict p T w g (map (at T) E)).choices ≡ length (marked_literals p w marks 0 T))
 

@@ -1,6 +1,6 @@
 -- The table as code has it: an unknown is its place in the table, and what is opened has the place of its first child.
 -- Assumes nothing.
-use Rattle.std.specs.Prelude.{◌≡◌, ℕ, zero, suc, ◌+◌, ◌<◌, Bool, false, cond, ◌||◌, List, [], ◌∷◌, map, length, ◌==◌, slice_index_or}
+use Rattle.std.specs.Prelude.{◌≡◌, ℕ, zero, suc, ◌+◌, ◌<◌, Bool, cond, List, [], ◌∷◌, map, length, slice_index_or}
 use Rattle.std.proofs.Math.Option.{Option, none, some}
 use Rattle.syntax.specs.Problems.{Problem}
 use Rattle.judging.specs.Judging.{Unknowns}
@@ -57,11 +57,6 @@ named_finding f (out_of_steps g) = out_of_steps g
 named_finding f (false_goal g E) = false_goal g (map f E)
 named_finding f (waiting_goal g u) = waiting_goal g (f u)
 named_finding f all_true = all_true
-
--- a place is in the explanation
-abbrev pub explains : List ℕ → ℕ → Bool
-explains [] i = false
-explains (n ∷ E) i = n == i || explains E i
 
 -- the literals that say that the case of an entry differs
 abbrev pub differing : Option ℕ → Option ℕ → List ℕ → List ℕ

@@ -2,13 +2,15 @@
 use Rattle.std.proofs.Common.{◌≡◌, ℕ, true, List, is_ok, Ok, Err, Result, sym, refl, ◌∙◌}
 use Rattle.std.proofs.lemmas.Bool.{false≢true}
 use Rattle.syntax.specs.declared.faults.Fault.{Fault}
-use Rattle.syntax.specs.Problems.{Problem, encode_problem}
+use Rattle.syntax.specs.Problems.{Problem, Lawful, encode_problem}
 use Rattle.tables.proofs.Exactness.{within_limits}
 use Rattle.verdict.specs.Verdict.{verdict, problem_in}
 use Rattle.verdict.specs.Exact.{Encodes}
 use Rattle.verdict.proofs.Exact.{came, encoded}
 use Rattle.kept.specs.Layout.{read_from}
 use Rattle.kept.proofs.Records.{same_bytes}
+use Rattle.problem.specs.declared.problem.Problem.{Problem as Taken}
+use Rattle.problem.specs.Meant.{held, meant}
 
 was_accepted : (r : Result Problem Fault) → is_ok r ≡ true → r ≡ Ok (problem_in r)
 was_accepted (Ok p) e = refl
@@ -21,3 +23,6 @@ is_encoded bs ok written =
     let c = came bs p (was_accepted (verdict bs) ok) in
     let w = sym (same_bytes c.raw p c.terms) ∙ written in
     encoded bs p c.raw w (within_limits bs c.raw c.read w) c.all_declared c.none_deep c.terms
+
+pub lawful : (p : Taken) → Lawful (meant p)
+lawful p = (is_encoded (held p) p.holds.accepted p.holds.written).lawful

@@ -1,25 +1,19 @@
 -- Where the terms of a problem stand in its bytes: each behind the head of its record, and the records one after another. Assumes nothing.
 use Rattle.std.proofs.Common.{◌≡◌, ℕ, zero, suc, ◌+◌, ◌/◌, ◌%◌, ◌<◌, List, [], ◌∷◌, ◌++◌, map, length, get_or, drop, sym, refl, ap, ◌∙◌, subst, append_assoc, arith}
-use Rattle.std.proofs.lemmas.List.{drop-drop, drop_at, length-append}
+use Rattle.std.proofs.lemmas.List.{drop_at, length-append}
 use Rattle.syntax.specs.Terms.{Term, encode}
 use Rattle.syntax.specs.Typing.{Profile, no_profile, want, params_of, result_of, HasType}
-use Rattle.syntax.specs.Problems.{Function, Problem, LawfulFunction, LawfulGoal, Each, sig_of, concat, encode_list, encode_type, encode_function, encode_unknown, encode_goal, encode_end}
+use Rattle.syntax.specs.Problems.{Function, Problem, LawfulFunction, LawfulGoal, sig_of, concat, encode_list, encode_type, encode_function, encode_unknown, encode_goal, encode_end}
 use Rattle.tables.specs.Tabled.{places_of}
+use Rattle.depths.proofs.Lawfulness.{each_at}
 use Rattle.ends.specs.Ends.{StandsAt}
+use Rattle.ends.proofs.Ending.{past_part}
 use Rattle.verdict.specs.Exact.{Encodes}
 use Rattle.kept.specs.Layout.{functions_from, unknowns_from, goals_from, body_from, goal_from, body_places, goal_places}
 
 pub length_places : {A : Type 0} (g : ℕ → A → ℕ) (w : A → List ℕ) (p : ℕ) (xs : List A) → length (places_of g w p xs) ≡ length xs
 length_places g w p [] = refl
 length_places g w p (x ∷ xs) = ap suc (length_places g w (p + length (w x)) xs)
-
-past_part : (bytes : List ℕ) (q : ℕ) (xs zs : List ℕ) → drop q bytes ≡ xs ++ zs → drop (q + length xs) bytes ≡ zs
-past_part bytes q xs zs e = sym (drop-drop (length xs) q bytes) ∙ ap (drop (length xs)) e ∙ drop_at xs zs (length xs) refl
-
-each_at : {A : Type 0} (P : A → Type 0) (xs : List A) (d : A) (i : ℕ) → Each P xs → i < length xs → P (get_or xs i d)
-each_at P [] d i h lt = absurd (omega arith)
-each_at P (x ∷ xs) d zero h lt = h.0
-each_at P (x ∷ xs) d (suc i) h lt = each_at P xs d i h.1 (omega arith)
 
 -- Records that stand one after another, each a head and a term: the term of each stands where its head ends.
 module _ {A : Type 0} (g : ℕ → A → ℕ) (w hd : A → List ℕ) (term : A → Term) (split : (x : A) → w x ≡ hd x ++ encode (term x))
@@ -74,7 +68,7 @@ module _ (p : Problem) (bytes : List ℕ) (e : Encodes p bytes) where
       → StandsAt (sig_of p) bytes q (want (params_of (sig_of p) f) (result_of (sig_of p) f)) (get_or p.functions f d).body
   body_stands f q d lt at =
       let there = term_there body_from encode_function body_head (λ x. x.body) body_split body_starts bytes p.functions (functions_from p) tail_unknowns functions_there f (length bytes) d lt in
-      let has = (each_at (LawfulFunction (sig_of p)) p.functions d f e.lawful.of_functions lt).2 in
+      let has = (each_at (LawfulFunction (sig_of p)) p.functions d e.lawful.of_functions f lt).2 in
       let same = profile_at p.functions f lt in
       record {
         others = there.0;
@@ -93,6 +87,6 @@ module _ (p : Problem) (bytes : List ℕ) (e : Encodes p bytes) where
       let there = term_there goal_from encode_goal goal_head (λ x. x) (λ x. refl) (λ k x. omega arith) bytes p.goals (goals_from p) encode_end goals_there g (length bytes) d lt in
       record {
         others = there.0;
-        has = each_at (LawfulGoal (sig_of p)) p.goals d g e.lawful.of_goals lt;
+        has = each_at (LawfulGoal (sig_of p)) p.goals d e.lawful.of_goals g lt;
         is = ap (λ k. drop k bytes) at ∙ there.1;
       }

@@ -1,12 +1,12 @@
 -- What stands at a place, seen from its first bytes. The parts of a term stand where the table of ends leads. Assumes nothing.
 use Rattle.std.proofs.Common.{◌≡◌, ℕ, zero, suc, ◌+◌, ◌-◌, ◌<◌, ◌≤◌, cond, List, [], ◌∷◌, ◌++◌, length, get_or, drop, sym, refl, ap, ◌∙◌, subst, add-zero, arith, lt-ltb}
-use Rattle.std.proofs.lemmas.List.{get_or-drop, length-drop, length-set, length-replicate}
+use Rattle.std.proofs.lemmas.List.{length-drop}
 use Rattle.syntax.specs.Terms.{Term, Terms, var, unknown, con, call, case, both, not, equal, t[], ◌t∷◌, encode, encodes}
 use Rattle.syntax.specs.Typing.{Sig, Want, want, each_of, branches_of, AllTyped, constructors, arguments, params_of, cases_of}
 use Rattle.reading.specs.Reading.{tag_of}
-use Rattle.ends.specs.Ends.{hop, hops, end_at, at_most, filled, ends_of, nth, StandsAt, PartsStand}
-use Rattle.ends.proofs.Ending.{ends_give_parts_lem, within}
-use Rattle.ends.proofs.Filling.{ends_stand}
+use Rattle.ends.specs.Ends.{hop, hops, ends_of, nth, StandsAt, PartsStand}
+use Rattle.ends.proofs.Ending.{encode_some, read_at, ends_give_parts_lem, within}
+use Rattle.ends.proofs.Filling.{filled_long, ends_stand}
 use Rattle.problem.specs.declared.view.View.{View}
 use Rattle.problem.specs.declared.view.View.TheVariants.{Nothing}
 use Rattle.problem.specs.Views.{view_by, view_at, Row, Shows, AlwaysShows}
@@ -20,23 +20,20 @@ module _ (sig : Sig) (bytes next : List ℕ) where
   row_from (t t∷ ts) [] h q f = absurd h
   row_from (t t∷ ts) (w ∷ ws) h q f = (f zero (omega arith), row_from ts ws h.2 (hop next q) (λ j lt. f (suc j) (omega arith)))
 
-  read : (p k : ℕ) (xs : List ℕ) → drop p bytes ≡ xs → get_or bytes (p + k) 0 ≡ get_or xs k 0
-  read p k xs e = sym (get_or-drop p bytes k 0) ∙ ap (λ ys. get_or ys k 0) e
-
   -- the view by the first bytes, one, two or three of them
   view_1 : (p a : ℕ) (xs : List ℕ) → drop p bytes ≡ a ∷ xs → view_at sig bytes next p ≡ view_by sig next p (tag_of a) (get_or bytes (p + 1) 0) (get_or bytes (p + 2) 0)
   view_1 p a xs e =
       let long = sym (length-drop p bytes) ∙ ap length e in
       let low : p < length bytes = omega arith in
-      let first = ap (λ q. get_or bytes q 0) (sym (add-zero p)) ∙ read p 0 (a ∷ xs) e in
+      let first = ap (λ q. get_or bytes q 0) (sym (add-zero p)) ∙ read_at bytes p 0 (a ∷ xs) e in
       let at = λ (x : ℕ). view_by sig next p (tag_of x) (get_or bytes (p + 1) 0) (get_or bytes (p + 2) 0) in
       ap (λ b. cond b (at (get_or bytes p 0)) Nothing) (lt-ltb p (length bytes) low) ∙ ap at first
 
   view_2 : (p a b : ℕ) (xs : List ℕ) → drop p bytes ≡ a ∷ (b ∷ xs) → view_at sig bytes next p ≡ view_by sig next p (tag_of a) b (get_or bytes (p + 2) 0)
-  view_2 p a b xs e = view_1 p a (b ∷ xs) e ∙ ap (λ y. view_by sig next p (tag_of a) y (get_or bytes (p + 2) 0)) (read p 1 (a ∷ (b ∷ xs)) e)
+  view_2 p a b xs e = view_1 p a (b ∷ xs) e ∙ ap (λ y. view_by sig next p (tag_of a) y (get_or bytes (p + 2) 0)) (read_at bytes p 1 (a ∷ (b ∷ xs)) e)
 
   view_3 : (p a b c : ℕ) (xs : List ℕ) → drop p bytes ≡ a ∷ (b ∷ (c ∷ xs)) → view_at sig bytes next p ≡ view_by sig next p (tag_of a) b c
-  view_3 p a b c xs e = view_2 p a b (c ∷ xs) e ∙ ap (view_by sig next p (tag_of a) b) (read p 2 (a ∷ (b ∷ (c ∷ xs))) e)
+  view_3 p a b c xs e = view_2 p a b (c ∷ xs) e ∙ ap (view_by sig next p (tag_of a) b) (read_at bytes p 2 (a ∷ (b ∷ (c ∷ xs))) e)
 
   shows : PartsStand sig bytes next → (p : ℕ) → AlwaysShows sig bytes next p (view_at sig bytes next p)
   shows parts p w (var v) st =
@@ -101,34 +98,18 @@ module _ (sig : Sig) (bytes next : List ℕ) where
         stands_right = part (suc zero) (omega arith);
       })
 
-ends_long : (sig : Sig) (bytes : List ℕ) (k : ℕ) → length (filled sig bytes k) ≡ length bytes
-ends_long sig bytes zero = length-replicate (length bytes) 0
-ends_long sig bytes (suc k) =
-    length-set (filled sig bytes k) (length bytes - suc k) (at_most (length bytes) (end_at sig bytes (filled sig bytes k) (length bytes - suc k)))
-    ∙ ends_long sig bytes k
-
-encode_some : (t : Term) → 0 < length (encode t)
-encode_some (var v) = omega arith
-encode_some (unknown k) = omega arith
-encode_some (con t c ts) = omega arith
-encode_some (call f ts) = omega arith
-encode_some (case t u us) = omega arith
-encode_some (both a b) = omega arith
-encode_some (not a) = omega arith
-encode_some (equal t a b) = omega arith
-
 -- with the table of ends, each view shows the term at its place
 pub views_show : (sig : Sig) (bytes : List ℕ) (p : ℕ) (v : View) → v ≡ view_at sig bytes (ends_of sig bytes) p → AlwaysShows sig bytes (ends_of sig bytes) p v
 views_show sig bytes p v e =
     let next = ends_of sig bytes in
     subst (AlwaysShows sig bytes next p) (sym e)
-    (shows sig bytes next (ends_give_parts_lem sig bytes next (ends_stand sig bytes) (ends_long sig bytes (length bytes))) p)
+    (shows sig bytes next (ends_give_parts_lem sig bytes next (ends_stand sig bytes) (filled_long sig bytes (length bytes))) p)
 
 -- and the table leads past a term that stands
 pub comes_after : (sig : Sig) (bytes : List ℕ) (p q : ℕ) → q ≡ hop (ends_of sig bytes) p → (w : Want) (t : Term) → StandsAt sig bytes p w t → q ≡ p + length (encode t)
 comes_after sig bytes p q e w t st =
     let next = ends_of sig bytes in
-    let all = ends_long sig bytes (length bytes) in
+    let all = filled_long sig bytes (length bytes) in
     let from : 0 ≤ p = omega arith in
     let to = ends_stand sig bytes p from w.scope w.ty t st.others st.has st.is in
     let room = within bytes p t st.others st.is in

@@ -1,20 +1,12 @@
 -- Clauses of allotted literals are refused only for want of entries. Assumes nothing.
-use Rattle.std.proofs.Common.{◌≡◌, ℕ, ◌+◌, ◌*◌, ◌<◌, ◌≤◌, Bool, true, false, ◌&&◌, ltb, ◌⊎◌, List, [], ◌∷◌, ◌++◌, length, refl, ap, ◌∙◌, inl, inr, arith}
+use Rattle.std.proofs.Common.{◌≡◌, ℕ, ◌+◌, ◌*◌, ◌<◌, ◌≤◌, true, ltb, ◌⊎◌, List, [], ◌∷◌, length, refl, ◌∙◌, inl, inr, arith}
 use Rattle.std.proofs.lemmas.Bool.{and_parts, and_from, cases_lt, lt-ltb, ltb-true, le-leb, lt-leb, cond-true, cond-false}
-use Rattle.chooser.specs.Ways.{every, allotted}
+use Rattle.chooser.specs.Ways.{allotted}
 use Rattle.chooser.specs.Meaning.{Meaning}
 use Rattle.chooser.specs.Steps.{add_refusal}
 use Rattle.chooser.specs.Faults.{fault_number}
 use Rattle.chooser.specs.declared.Fault.{Fault}
 use Rattle.chooser.specs.declared.Fault.TheVariants.{NoVariable, Unallotted, NoEntries, WrongLength}
-
-pub every_join : (f : ℕ → Bool) (xs ys : List ℕ) → every f (xs ++ ys) ≡ (every f xs && every f ys)
-every_join f [] ys = refl
-every_join f (x ∷ xs) ys = ap (λ b. f x && b) (every_join f xs ys) ∙ and_assoc (f x) (every f xs) (every f ys)
-  where
-    and_assoc : (a b c : Bool) → (a && (b && c)) ≡ ((a && b) && c)
-    and_assoc true b c = refl
-    and_assoc false b c = refl
 
 pub allotted_one : (v l : ℕ) → l < 2 * v → allotted v (l ∷ []) ≡ true
 allotted_one v l h = and_from _ _ (lt-ltb l (2 * v) h) refl

@@ -17,6 +17,7 @@ use Rattle.finder.specs.Clauses.{off}
 use Rattle.finder.proofs.Ways.{case_at_says}
 use Rattle.finder.proofs.Tables.{opening_entry}
 use Rattle.finder.proofs.Extended.{extending}
+use Rattle.finder.proofs.Asking.{every_join}
 use Rattle.places.specs.Places.{entry_at, case_in, differing as differing-by-places, marked_literals}
 use Rattle.places.proofs.Openings.{entry_in}
 use Rattle.unknowns.specs.Listing.{maybe, blank, row, taken, taken_by, Stands, CaseAs, DecidesAs}
@@ -24,7 +25,7 @@ use Rattle.unknowns.specs.declared.table.Table.{Table as Code}
 use Rattle.unknowns.specs.declared.table.Case.{Case}
 use Rattle.unknowns.specs.declared.table.Unknown.{Unknown}
 use Rattle.recording.specs.Conflict.{differing, literal_at, literals_below, clause_of, Recorded}
-use Rattle.recording.proofs.Clauses.{every_join, allotted_cons, allotted_wide, too_few}
+use Rattle.recording.proofs.Clauses.{allotted_cons, allotted_wide, too_few}
 
 -- what is written of the clause when the rows below `at` were gone through
 module _ (t : Code) (cases : List (Option Case)) (marks : ℕ → Bool) (goal : ℕ) where

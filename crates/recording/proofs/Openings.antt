@@ -7,9 +7,10 @@ use Rattle.chooser.specs.Steps.{Added, add_refusal}
 use Rattle.chooser.specs.Faults.{fault_number}
 use Rattle.chooser.specs.declared.Fault.{Fault}
 use Rattle.finder.specs.Clauses.{on, off, some_case, not_with, not_two, entries, opening_entries, Extended}
-use Rattle.finder.proofs.Clauses.{entries_join, opening_takes}
+use Rattle.finder.proofs.Clauses.{entries_join, not_with_entries, opening_takes}
+use Rattle.finder.proofs.Asking.{every_join}
 use Rattle.finder.proofs.Extended.{extending}
-use Rattle.recording.proofs.Clauses.{every_join, allotted_one, allotted_cons, not_refused}
+use Rattle.recording.proofs.Clauses.{allotted_one, allotted_cons, not_refused}
 
 -- the clause that one of the cases holds
 pub cases_allotted : (v a m : ℕ) → a + m ≤ v → allotted v (some_case a m) ≡ true
@@ -22,17 +23,10 @@ pub takes_cases : (a m : ℕ) (ls : List ℕ) → ls ≡ some_case a m → lengt
 takes_cases a m ls e = ap (λ xs. length xs + 1 + entries (not_two a m)) e ∙ opening_takes a m
 
 -- the clauses of the pairs
-with_entries : (a c m : ℕ) → entries (not_with a c m) ≡ 3 * m
-with_entries a c zero = refl
-with_entries a c (suc m) =
-    let j = entries_join (not_with a c m) ((off (a + m) ∷ (off (a + c) ∷ [])) ∷ []) in
-    let ih = with_entries a c m in
-    omega (arith, j, ih)
-
 two_entries : (a m : ℕ) → entries (not_two a (suc m)) ≡ entries (not_two a m) + 3 * m
 two_entries a m =
     let j = entries_join (not_two a m) (not_with a m m) in
-    let w = with_entries a m m in
+    let w = not_with_entries a m m in
     omega (arith, j, w)
 
 -- a pair is one of those that are left
@@ -49,7 +43,7 @@ pair_left a d c (suc m) k l = go (cases_lt c m) (pair_left a d c m k)
     go (inr q) ih =
         let same : c ≡ m = omega (arith, q, l) in
         let t = two_entries a m in
-        let w = with_entries a c d in
+        let w = not_with_entries a c d in
         let e = ap (λ n. entries (not_two a n)) same in
         omega (arith, t, w, e, same, k)
 

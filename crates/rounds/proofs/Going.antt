@@ -1,7 +1,8 @@
 -- Round after round: what was gone through, with one more round, and when the search ends. Assumes nothing.
 use Rattle.std.proofs.Common.{◌≡◌, ℕ, suc, ◌+◌, ◌-◌, ◌<◌, Bool, List, Option, refl, subst, arith}
-use Rattle.chooser.specs.Meaning.{Meaning, Same}
+use Rattle.chooser.specs.Meaning.{Meaning}
 use Rattle.syntax.specs.Problems.{Problem}
+use Rattle.finder.proofs.Extended.{same_self}
 use Rattle.histories.specs.Rounds.{Outcome, spent_rounds, Answer as Told, no_round, closes, one_opened, one_recorded, Known, Runs, rounds_spent}
 use Rattle.answers.specs.declared.answer.Outcome.{Outcome as CodeOutcome}
 use Rattle.answers.specs.declared.answer.Outcome.TheVariants.{SpentRounds}
@@ -75,12 +76,11 @@ module _ {p : Problem} {force : ℕ → Bool} {n steps : ℕ} {X : Known} {M : M
       → Gone p force n steps i opened recorded X M t M₁
       → RanTo p force n rounds steps X M t M₁ cases (record { outcome = SpentRounds; rounds = rounds; opened = opened; recorded = recorded })
   ran_out {rounds} {i} {opened} {recorded} {t} {M₁} {cases} e g =
-      let same : Same M₁ M₁ = record { counts = refl; rooms = refl; leaves = refl; allows = λ w. refl } in
       record {
         known_then = g.now_known;
         answer = added i opened recorded (no_round spent_rounds);
         told = answer_as refl (omega (arith, e)) (omega arith) (omega arith);
-        runs = runs_as (omega (arith, e)) refl (g.more 0 (no_round spent_rounds) g.now_known M₁ (rounds_spent same));
+        runs = runs_as (omega (arith, e)) refl (g.more 0 (no_round spent_rounds) g.now_known M₁ (rounds_spent same_self));
         stands = g.stands;
         decides = no_model (λ w. DecidesAs p t g.now_known.table w cases) spent_rounds refl;
       }

@@ -1,5 +1,6 @@
 -- Literals under two ways, and lists of literals of which some or every one passes.
 use Rattle.std.proofs.Common.{◌≡◌, ℕ, suc, ◌+◌, ◌-◌, ◌*◌, ◌/◌, ◌%◌, ◌<◌, Bool, true, false, cond, not, ◌&&◌, eqb, ltb, ◌⊎◌, List, [], ◌∷◌, length, get_or, sym, refl, ap, ◌∙◌, subst, ⊎_elim, arith}
+use Rattle.std.proofs.Math.Bool.{not-not}
 use Rattle.std.proofs.lemmas.Bool.{and_parts, or_cases, not-true, both_ways, ltb-true, lt-ltb, le-ltb, cases_lt, cases_eq, cond-true, cond-false, eq-eqb, ne_eqb}
 use Rattle.std.proofs.lemmas.List.Elements.{All-from_get_or}
 use Rattle.std.proofs.lemmas.List.Sums.{AllPass-from_list_all, list_all-from_AllPass}
@@ -48,10 +49,6 @@ every_same f g v h (x ∷ xs) e =
 pub bits_from : (xs : List ℕ) → ((k : ℕ) → k < length xs → get_or xs k 0 < 2) → bits xs ≡ true
 bits_from xs h = list_all-from_AllPass (λ x. ltb x 2) xs (All-from_get_or (λ x. ltb x 2 ≡ true) xs 0 (λ k l. lt-ltb (get_or xs k 0) 2 (h k l)))
 
-twice : (b : Bool) → b ≡ not (not b)
-twice true = refl
-twice false = refl
-
 module _ (l : ℕ) where
   pub opposite_variable : opposite l / 2 ≡ l / 2
   opposite_variable =
@@ -76,6 +73,6 @@ module _ (l : ℕ) where
       ap (lit p) (cond-false (eqb (l % 2) 0) (l + 1) (l - 1) (ne_eqb (l % 2) 0 nz))
       ∙ cond-true (eqb ((l - 1) % 2) 0) (p ((l - 1) / 2)) (not (p ((l - 1) / 2))) (eq-eqb ((l - 1) % 2) 0 even)
       ∙ ap p same
-      ∙ twice (p (l / 2))
+      ∙ sym (not-not (p (l / 2)))
       ∙ ap not (sym (cond-false (eqb (l % 2) 0) (p (l / 2)) (not (p (l / 2))) (ne_eqb (l % 2) 0 nz))))
       (cases_eq (l % 2) 0)

@@ -4,6 +4,7 @@ use Rattle.std.proofs.Math.Option.{Option, none, some, none-ne-some}
 use Rattle.std.proofs.lemmas.Bool.{cond-true, cond-false}
 use Rattle.chooser.specs.Meaning.{Meaning}
 use Rattle.syntax.specs.Problems.{Problem}
+use Rattle.finder.proofs.Extended.{same_self}
 use Rattle.histories.specs.States.{Session as Abstract, State, not_begun, begun}
 use Rattle.histories.specs.Calls.{Refusal, plain, between, seen, search_refusal, refused, answered, search_refused}
 use Rattle.histories.proofs.Theorem.{nothing_overlooked}
@@ -17,7 +18,6 @@ use Rattle.sessions.specs.Faults.{refusal_of}
 use Rattle.sessions.specs.Shown.{ShowsBegun, ShowsIn, Shows}
 use Rattle.sessions.specs.Limits.{limits_refusal}
 use Rattle.sessions.specs.Searching.{Sought, Searched}
-use Rattle.sessions.proofs.Sought.{same_self}
 
 passed : (a b : Bool) (x y : Refusal) → none ≡ cond a (cond b none (some y)) (some x) → (z : Option Refusal) → cond a (cond b z (some y)) (some x) ≡ z
 passed true true x y e z = refl

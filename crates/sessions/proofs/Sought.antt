@@ -3,12 +3,13 @@ use Rattle.std.proofs.Common.{◌≡◌, ℕ, Bool, true, false, List, get_or, e
 use Rattle.std.proofs.Math.Option.{Option, none, some, none-ne-some}
 use Rattle.std.proofs.Math.Path.{fun_ext}
 use Rattle.std.proofs.lemmas.Bool.{and_parts, eqb-true, false≢true}
-use Rattle.chooser.specs.Meaning.{Meaning, Same}
+use Rattle.chooser.specs.Meaning.{Meaning}
 use Rattle.syntax.specs.Problems.{Problem}
 use Rattle.finder.specs.Levels.{measures, too_shallow}
 use Rattle.finder.specs.Tables.{Table}
 use Rattle.finder.specs.Ways.{Way}
 use Rattle.finder.specs.Conflicts.{Conflict}
+use Rattle.finder.proofs.Extended.{same_self}
 use Rattle.unknowns.specs.Listing.{Stands, DecidesAs}
 use Rattle.histories.specs.Rounds.{Outcome, model, none_within, never, foreign, spent_rounds, spent_steps, spent_unknowns, spent_chooser, Known, no_round}
 use Rattle.histories.specs.States.{AtHand, Session as Abstract, begun}
@@ -22,9 +23,6 @@ use Rattle.rounds.specs.Run.{RanTo}
 use Rattle.sessions.specs.declared.session.Begun.{Begun}
 use Rattle.sessions.specs.Shown.{ShowsBegun}
 use Rattle.sessions.specs.Searching.{is_model_found, Sought}
-
-pub same_self : {M : Meaning} → Same M M
-same_self = record { counts = refl; rooms = refl; leaves = refl; allows = λ w. refl }
 
 -- a model at hand is of the way that the outcome has
 hand_way : (n steps : ℕ) (o : Outcome) (m : AtHand) → in_hand n steps o ≡ some m → o ≡ model m.way

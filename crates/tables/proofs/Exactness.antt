@@ -10,6 +10,7 @@ use Rattle.records.specs.Reading.{Read, read, and_then, preceded, type_of, funct
 use Rattle.tables.specs.Exact.{Bytes, ReadingExact}
 use Rattle.records.proofs.Sound.{same_read}
 use Rattle.records.proofs.Nexts.{starts_sound}
+use Rattle.records.proofs.Results.{was_ok}
 use Rattle.tables.proofs.RecordKinds.{Kind, each_right, type_kind, function_kind, unknown_kind, goal_kind, FineType, FineFunction}
 
 -- the records of a kind, as they were read
@@ -106,11 +107,6 @@ after_types ts = and_then (many function_of 0x46 0x4E 64 ts.rest ts.at) (after_f
 pub short_enough : (bs : List ℕ) → length bs ≤ 16384 → records bs ≡ all_of bs
 short_enough bs h = cond-true (leb (length bs) 16384) (all_of bs) (Err (fault TooLong 16384)) (le-leb (length bs) 16384 h)
 
--- a step that came to an answer
-then_ok : {A B : Type 0} {y : B} (d : Result A Fault) (k : A → Result B Fault) → and_then d k ≡ Ok y → (x : A) × (d ≡ Ok x) × (k x ≡ Ok y)
-then_ok (Ok x) k e = (x, refl, e)
-then_ok (Err f) k e = cc
-
 pub end_sound : {A : Type 0} (x y : A) (xs : List ℕ) (p : ℕ) → end_of x xs p ≡ Ok y → (x ≡ y) × (xs ≡ encode_end)
 end_sound {A} x y xs p e = by (starts 0x45 0x4E xs) refl (leb (length xs) 2) refl e
   where
@@ -145,13 +141,13 @@ sections_sound bs r e = by (leb (length bs) 16384) refl e
     by : (t : Bool) → leb (length bs) 16384 ≡ t → cond t (all_of bs) (Err (fault TooLong 16384)) ≡ Ok r → SectionsSound bs r
     by false h e = cc
     by true h e =
-        let s = then_ok (many type_of 0x44 0x54 31 bs 0) after_types e in
+        let s = was_ok (many type_of 0x44 0x54 31 bs 0) after_types e in
         let ts = s.0 in
-        let t = then_ok (many function_of 0x46 0x4E 64 ts.rest ts.at) (after_functions ts.value) s.2 in
+        let t = was_ok (many function_of 0x46 0x4E 64 ts.rest ts.at) (after_functions ts.value) s.2 in
         let fs = t.0 in
-        let u = then_ok (many byte_of 0x55 0x4B 16 fs.rest fs.at) (after_unknowns ts.value fs.value) t.2 in
+        let u = was_ok (many byte_of 0x55 0x4B 16 fs.rest fs.at) (after_unknowns ts.value fs.value) t.2 in
         let us = u.0 in
-        let v = then_ok (many part_of 0x47 0x4C 32 us.rest us.at) (after_goals ts.value fs.value us.value) u.2 in
+        let v = was_ok (many part_of 0x47 0x4C 32 us.rest us.at) (after_goals ts.value fs.value us.value) u.2 in
         let gs = v.0 in
         let z = end_sound (record { types = ts.value; functions = fs.value; unknowns = us.value; goals = gs.value }) r gs.rest gs.at v.2 in
         subst (SectionsSound bs) z.0

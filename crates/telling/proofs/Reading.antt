@@ -14,13 +14,13 @@ use Rattle.telling.specs.Shown.{model_text, Shown}
 not_both : {B : Type 0} (roots : List ℕ) (e : Fault) (r : Result (List ℕ) Fault) → r ≡ Ok roots → r ≡ Err e → B
 not_both roots e r ok err = let both : Ok roots ≡ Err e = sym ok ∙ err in let z : ◌≡◌ {A = ℕ} 0 1 = cc in absurd (omega arith)
 
-same_fault : (e f : Fault) → ◌≡◌ {A = Result (List ℕ) Fault} (Err e) (Err f) → e ≡ f
-same_fault e f h = cc
-
 module _ (p : Problem) (bytes : List ℕ) where
   pub shown_refused : (out : List ℕ) (e : Fault) (r : Result ℕ TellFault) → reading p bytes ≡ Err e → r ≡ Err (BadModel e) → Shown p bytes out out r
   shown_refused out e r refused is = record {
-    refused = λ f h. (is ∙ ap (λ (x : Fault). Err (BadModel x)) (same_fault e f (sym refused ∙ h)), refl);
+    refused = λ f h.
+        let errs : ◌≡◌ {A = Result (List ℕ) Fault} (Err e) (Err f) = sym refused ∙ h in
+        let same : e ≡ f = cc in
+        (is ∙ ap (λ (x : Fault). Err (BadModel x)) same, refl);
     told = λ ps w. let read = (exact p bytes).1 (record { parts = ps; writes = w }) in not_both read.roots e (reading p bytes) read.reads refused;
   }
 

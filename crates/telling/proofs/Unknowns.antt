@@ -1,11 +1,12 @@
 -- A model is told unknown by unknown: behind what is told, the records of the unknowns that are left stand in the bytes.
 use Rattle.std.proofs.Common.{◌≡◌, ℕ, ◌+◌, ◌*◌, ◌<◌, ◌≤◌, List, [], ◌∷◌, ◌++◌, length, get_or, drop, sym, refl, ap, ◌∙◌, subst, append_assoc, arith}
 use Rattle.std.specs.Prelude.{codes}
+use Rattle.std.proofs.lemmas.List.{drop_all}
 use Rattle.syntax.specs.Typing.{Sig}
 use Rattle.syntax.specs.Problems.{Problem, sig_of}
+use Rattle.ends.proofs.Ending.{past_part}
 use Rattle.model.specs.Partial.{Partials, p[], ◌p∷◌, OfTypes, written, encode_from, Writes}
 use Rattle.model.proofs.Bytes.{at_byte}
-use Rattle.model.proofs.Ends.{drop_none}
 use Rattle.model.proofs.Roots.{first}
 use Rattle.telling.specs.declared.page.Page.{Page}
 use Rattle.telling.specs.Lines.{labelled}
@@ -13,7 +14,6 @@ use Rattle.telling.specs.Pages.{Adds}
 use Rattle.telling.specs.Shown.{value_text, unknown_text, unknowns_text, model_text}
 use Rattle.telling.specs.Standing.{Tells}
 use Rattle.telling.proofs.Pages.{adds_then, adds_none}
-use Rattle.telling.proofs.Values.{past_part}
 
 -- of the model ps, the records of the unknowns from number k on stand at `place`
 pub record Left (sig : Sig) (bytes types : List ℕ) (ps : Partials) (k place : ℕ) (old now : Page) : Type 0 where
@@ -95,4 +95,4 @@ module _ (sig : Sig) (bs : List ℕ) where
         (l.stands ∙ ap (λ ts. encode_from sig k ts l.left) e) l.text l.adds names is tells ends
 
     pub left_none : length types ≤ k → Adds old (model_text qs) now
-    left_none le = finish_by qs k l.done l.left (subst (λ ts. OfTypes sig ts l.left) (drop_none k types le) l.typed) l.text l.adds
+    left_none le = finish_by qs k l.done l.left (subst (λ ts. OfTypes sig ts l.left) (drop_all k types le) l.typed) l.text l.adds

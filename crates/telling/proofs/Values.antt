@@ -1,20 +1,17 @@
 -- A value is told argument by argument: behind what is told of it, the arguments that are left stand in the bytes.
 use Rattle.std.proofs.Common.{◌≡◌, ℕ, ◌+◌, ◌*◌, ◌<◌, ◌≤◌, List, [], ◌∷◌, ◌++◌, length, get_or, drop, sym, refl, ap, ◌∙◌, subst, append_assoc, arith, length-append}
-use Rattle.std.proofs.lemmas.List.{drop-drop, drop_at}
+use Rattle.std.proofs.lemmas.List.{drop_all}
 use Rattle.std.specs.Prelude.{codes, decimal}
 use Rattle.syntax.specs.Typing.{Sig, arguments}
+use Rattle.ends.proofs.Ending.{past_part}
 use Rattle.model.specs.Partial.{Partial, open_part, built, Partials, p[], ◌p∷◌, OfTypes, written, all_written}
 use Rattle.model.proofs.Bytes.{at_byte}
-use Rattle.model.proofs.Ends.{drop_none}
 use Rattle.model.proofs.Roots.{first}
 use Rattle.telling.specs.declared.page.Page.{Page}
 use Rattle.telling.specs.Pages.{Adds}
 use Rattle.telling.specs.Shown.{opening, closing, value_text, arguments_text}
 use Rattle.telling.specs.Standing.{ValueAt, Tells}
 use Rattle.telling.proofs.Pages.{adds_then}
-
-pub past_part : (bs : List ℕ) (p : ℕ) (xs ys : List ℕ) → drop p bs ≡ xs ++ ys → drop (p + length xs) bs ≡ ys
-past_part bs p xs ys e = sym (drop-drop (length xs) p bs) ∙ ap (drop (length xs)) e ∙ drop_at xs ys (length xs) refl
 
 -- of the value v that stands at `place`, the arguments from number i on stand at `end`
 pub record Left (sig : Sig) (bytes : List ℕ) (place t : ℕ) (v : Partial) (rest types : List ℕ) (i end : ℕ) (old now : Page) : Type 0 where
@@ -120,6 +117,6 @@ module _ (sig : Sig) (bs : List ℕ) (place t : ℕ) where
   pub left_none : {v : Partial} {rest types : List ℕ} {i end : ℕ} {old now last : Page} → Left sig bs place t v rest types i end old now
       → length types ≤ i → Adds now (closing i) last → (end ≡ place + length (written sig t v)) × Adds old (value_text v) last
   left_none {v} {rest} {types} {i} {end} l le closes =
-      let e = drop_none i types le in
+      let e = drop_all i types le in
       finish_by v i end l.done l.left (subst (λ ts. OfTypes sig ts l.left) e l.typed)
       (ap (λ ts. end + length (all_written sig ts l.left)) (sym e) ∙ l.ends) l.text l.adds closes

@@ -6,7 +6,8 @@ use Rattle.judging.specs.Paths.{root, type_of}
 use Rattle.finder.specs.Levels.{measures, level}
 use Rattle.finder.specs.Tables.{Entry, first_table, roots_from, closed_entry}
 use Rattle.finder.proofs.Invariant.{begins_sound}
-use Rattle.finder.proofs.Tables.{not_none, roots_unopened}
+use Rattle.depths.proofs.Finding.{not_none}
+use Rattle.finder.proofs.Tables.{roots_unopened}
 use Rattle.places.specs.Places.{at, entry_at}
 use Rattle.places.proofs.Openings.{roots_length, roots_at, begins_placed}
 use Rattle.unknowns.specs.declared.table.Table.{Table as Code}

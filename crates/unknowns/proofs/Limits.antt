@@ -5,12 +5,6 @@ use Rattle.std.proofs.lemmas.List.Sums.{sum_by-cons}
 use Rattle.syntax.specs.Typing.{Sig, cases_of}
 use Rattle.syntax.specs.Problems.{Problem as Meaning, sig_of, Each, FewTypes, LawfulType, Lawful}
 use Rattle.places.specs.Places.{births}
-use Rattle.problem.specs.declared.problem.Problem.{Problem}
-use Rattle.problem.specs.Meant.{held, meant}
-use Rattle.problem.proofs.Lawfulness.{is_encoded}
-
-pub lawful : (p : Problem) → Lawful (meant p)
-lawful p = (is_encoded (held p) p.holds.accepted p.holds.written).lawful
 
 six_each : (sig : Sig) (cs : List (List ℕ)) → Each (FewTypes sig) cs → births cs ≤ 6 * length cs
 six_each sig [] e = omega arith

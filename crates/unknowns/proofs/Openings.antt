@@ -1,16 +1,17 @@
 -- A table whose unknown was opened stands for the abstract table with that unknown opened: the rows that were there say what they
 -- said, but for the opened one, and the rows behind them are the children's. Assumes nothing.
-use Rattle.std.proofs.Common.{◌≡◌, ℕ, zero, suc, ◌+◌, ◌-◌, ◌<◌, ◌≤◌, Bool, true, false, cond, eqb, ◌⊎◌, List, [], ◌∷◌, ◌++◌, set, length, get_or, sym, refl, ap, ◌∙◌, subst, inl, inr, arith, get_or-append-add}
+use Rattle.std.proofs.Common.{◌≡◌, ℕ, zero, suc, ◌+◌, ◌-◌, ◌<◌, ◌≤◌, Bool, true, false, cond, eqb, ◌⊎◌, List, [], ◌∷◌, ◌++◌, set, length, get_or, sym, refl, ap, ◌∙◌, subst, inl, inr, zero-add, arith, get_or-append-add}
 use mathlib.Core.Option.{none, some}
 use Rattle.std.proofs.lemmas.List.{get_or-set_same, get_or-set_other, get_or_append_left, length-set, length-take-le}
-use Rattle.std.proofs.lemmas.Bool.{both_ways, cases_lt, cases_eq, cond-true, cond-false, eq-eqb, ne_eqb}
+use Rattle.std.proofs.lemmas.Bool.{cases_lt, cases_eq, cond-true, cond-false, eq-eqb, ne_eqb}
 use Rattle.syntax.specs.Typing.{cases_of}
 use Rattle.syntax.specs.Problems.{Problem, sig_of}
 use Rattle.judging.specs.Paths.{Path, child, type_of}
 use Rattle.judging.specs.Asked.{◌∈◌, first, later}
 use Rattle.finder.specs.Levels.{measures, level}
 use Rattle.finder.specs.Tables.{Entry, Table, cases_at, width, paths, same_path, opening, closed_entry, marked, kids_from, kids_of, opened_at, Distinct, ◌apart∷◌, Tabled}
-use Rattle.finder.proofs.Tables.{not_none, in_cons, same_path_is, same_path_self, same_path_not, opening_entry}
+use Rattle.depths.proofs.Finding.{not_none}
+use Rattle.finder.proofs.Tables.{in_cons, same_path_is, same_path_not, opening_entry, not_head}
 use Rattle.finder.proofs.Invariant.{opening_tabled}
 use Rattle.places.specs.Places.{at, entry_at, offset, births, Placed, Appends}
 use Rattle.places.proofs.Openings.{at_entry, at_in, entry_in, opening_places}
@@ -51,10 +52,6 @@ taken_marked : (p : Problem) (u : Path) (a : ℕ) (T : Table) → Distinct (path
 taken_marked p u a [] d m e = elim m [ ]
 taken_marked p u a (x ∷ T) (n apart∷ d) m e = go (same_path x.path u) refl (taken_marked p u a T d)
   where
-    out : same_path x.path u ≡ false → (x.path ≡ u) ⊎ (u ∈ paths T) → u ∈ paths T
-    out s (inl f) = absurd (both_ways _ s (subst (λ v. same_path x.path v ≡ true) f (same_path_self x.path)))
-    out s (inr q) = q
-
     go : (b : Bool) → same_path x.path u ≡ b → (u ∈ paths T → opening T u ≡ none → taken p (marked u a T) ≡ taken p T + width p u)
         → taken p (marked u a (x ∷ T)) ≡ taken p (x ∷ T) + width p u
     go true s ih =
@@ -66,7 +63,7 @@ taken_marked p u a (x ∷ T) (n apart∷ d) m e = go (same_path x.path u) refl (
         omega (arith, here, wide, closed, rest)
     go false s ih =
         let here = ap (taken_entry p) (cond-false (same_path x.path u) (record { path = x.path; first = some a }) x s) in
-        let rest = ih (out s (in_cons m)) (sym (cond-false _ _ _ s) ∙ e) in
+        let rest = ih (not_head x u T s (in_cons m)) (sym (cond-false _ _ _ s) ∙ e) in
         omega (arith, here, rest)
 
 -- a row stands for an entry, wherever it is
@@ -189,12 +186,9 @@ module _ (p : Problem) (t t' : Code) (i a : ℕ) (inside : i < t.len) (few : t.l
         row_is = row_behind p t t' i a (cases_at p u) inside fits grown is k l
             ∙ ap (λ z. get_or (kids_under p (row t i) 0 (cases_at p u)) z blank) q.2
             ∙ kid_at p (row t i) 0 (cases_at p u) q.0 q.1 q.3 q.4
-            ∙ ap (λ c. unopened (level_under p (row t i) c) (get_or (get_or (cases_at p u) q.0 []) q.1 0)) (none_more q.0);
+            ∙ ap (λ c. unopened (level_under p (row t i) c) (get_or (get_or (cases_at p u) q.0 []) q.1 0)) (zero-add q.0);
         entry_is = ap (entry_at T') (omega (arith, e, k_is)) ∙ appends.children q.0 q.1 q.3 q.4;
       }
-    where
-      none_more : (c : ℕ) → 0 + c ≡ c
-      none_more c = omega arith
 
   row_born : (k : ℕ) → k < births (cases_at p u) → Row p T' (t.len + k) (row t' (t.len + k))
   row_born k l =

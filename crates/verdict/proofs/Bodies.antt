@@ -8,7 +8,8 @@ use Rattle.tables.specs.Tabled.{body_at, term_at}
 use Rattle.reading.specs.Reading.{reading}
 use Rattle.reading.proofs.Verdicts.{reading_is_exact_lem}
 use Rattle.verdict.specs.Verdict.{term_in, bodies_in, goals_in}
-use Rattle.verdict.proofs.Results.{was_ok, then_ok, term_was}
+use Rattle.records.proofs.Results.{was_ok, then_ok}
+use Rattle.verdict.proofs.Results.{term_was}
 
 abbrev pub TypedBody : Sig → Function → Type 0
 TypedBody sig f = HasType sig f.profile.params f.body f.profile.result

@@ -1,5 +1,5 @@
 -- The steps of the checks over the tables: a term that is accepted is passed, and the first that is refused decides.
-use Rattle.std.proofs.Common.{◌≡◌, ℕ, ◌+◌, ◌<◌, ◌≤◌, List, [], ◌∷◌, length, get_or, drop, Ok, Err, Result, sym, refl, ◌∙◌, arith}
+use Rattle.std.proofs.Common.{◌≡◌, ℕ, ◌+◌, ◌<◌, ◌≤◌, List, [], ◌∷◌, length, get_or, drop, Ok, Err, Result, sym, refl, ◌∙◌}
 use Rattle.std.proofs.lemmas.List.{at_drop_more, at_drop_all}
 use Rattle.syntax.specs.declared.faults.Fault.{Fault}
 use Rattle.syntax.specs.declared.tables.Callable.{Callable}
@@ -9,13 +9,11 @@ use Rattle.syntax.specs.Terms.{Term}
 use Rattle.syntax.specs.Typing.{Sig}
 use Rattle.syntax.specs.Problems.{Function}
 use Rattle.records.specs.Reading.{and_then}
+use Rattle.records.proofs.Results.{never_ok}
 use Rattle.tables.specs.Tabled.{part_in}
 use Rattle.reading.specs.Reading.{reading, verdict}
 use Rattle.verdict.specs.Verdict.{term_in}
 use Rattle.verdict.specs.ByTables.{fault_of, bodies_by, goals_by, terms_by}
-
-never : {A B E : Type 0} {e : E} {x : A} → ◌≡◌ {A = Result A E} (Err e) (Ok x) → B
-never q = let z : ◌≡◌ {A = ℕ} 0 1 = cc in absurd (omega arith)
 
 -- the same bytes, read the same way
 pub same_reading : {sig sig' : Sig} {vs vs' xs xs' : List ℕ} (ty p : ℕ) → sig ≡ sig' → vs ≡ vs' → xs ≡ xs' → verdict (reading sig vs ty p xs) ≡ verdict (reading sig' vs' ty p xs')
@@ -28,10 +26,10 @@ module _ {B C : Type 0} (k : Result B Fault) (g : Term → B → C) where
 
   passed : (x : Result Term ℕ) → Ok tt ≡ verdict x → fault_of (and_then (term_in x) (λ t. and_then k (λ y. Ok (g t y)))) ≡ fault_of k
   passed (Ok t) e = kept k t
-  passed (Err p) e = never (sym e)
+  passed (Err p) e = never_ok (sym e)
 
   refused : (x : Result Term ℕ) (f : Fault) → Err f ≡ verdict x → fault_of (and_then (term_in x) (λ t. and_then k (λ y. Ok (g t y)))) ≡ Err f
-  refused (Ok t) f e = never e
+  refused (Ok t) f e = never_ok e
   refused (Err p) f e = sym e
 
 module _ (sig : Sig) (bs : List ℕ) (fs : List Callable) (i : ℕ) where
@@ -80,10 +78,10 @@ module _ (sig : Sig) (bs : List ℕ) (gs : List Span) (i : ℕ) where
 both_kept : {A B : Type 0} (x : Result A Fault) (y : Result B Fault) → Ok tt ≡ fault_of x → fault_of {A = A × B} (and_then x (λ a. and_then y (λ b. Ok (a, b)))) ≡ fault_of y
 both_kept (Ok a) (Ok b) e = refl
 both_kept (Ok a) (Err f) e = refl
-both_kept (Err f) y e = never (sym e)
+both_kept (Err f) y e = never_ok (sym e)
 
 first_kept : {A B : Type 0} (x : Result A Fault) (y : Result B Fault) (f : Fault) → Err f ≡ fault_of x → fault_of {A = A × B} (and_then x (λ a. and_then y (λ b. Ok (a, b)))) ≡ Err f
-first_kept (Ok a) y f e = never e
+first_kept (Ok a) y f e = never_ok e
 first_kept (Err g) y f e = sym e
 
 module _ (sig : Sig) (bs : List ℕ) (fs : List Callable) (gs : List Span) where

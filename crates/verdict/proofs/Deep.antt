@@ -1,11 +1,12 @@
 -- The first type without a value no deeper than 8, found by the computed least depths, in the sense of values.
-use Rattle.std.proofs.Common.{◌≡◌, ℕ, zero, suc, ◌+◌, ◌<◌, ◌≤◌, Bool, true, false, cond, leb, List, [], ◌∷◌, length, get_or, Some, None, Option, sym, refl, ap, ◌∙◌, subst, add-zero, arith, le-leb, leb-true}
+use Rattle.std.proofs.Common.{◌≡◌, ℕ, zero, suc, ◌+◌, ◌<◌, ◌≤◌, cond, leb, List, [], ◌∷◌, length, get_or, Some, None, sym, refl, ap, ◌∙◌, subst, add-zero, arith, le-leb, leb-true}
 use borrow.Author.Tests.{lt-leb}
 use Rattle.syntax.specs.Typing.{Sig}
 use Rattle.syntax.specs.Values.{Shallow}
 use Rattle.syntax.specs.Least.{least_of}
 use Rattle.syntax.specs.Problems.{encode_type}
 use Rattle.tables.specs.Tabled.{places_of, mark_at}
+use Rattle.declarations.proofs.Declared.{test_none}
 use Rattle.depths.proofs.Leasts.{least_is_least}
 use Rattle.verdict.specs.Verdict.{deep_from}
 
@@ -18,13 +19,6 @@ shallow_low sig t s =
 
 pub low_shallow : (sig : Sig) (t : ℕ) → least_of sig t ≤ 8 → Shallow sig t 8
 low_shallow sig t h = (least_is_least sig t).bound h
-
-no_place : {A : Type 0} {q : ℕ} → ◌≡◌ {A = Option ℕ} (Some q) None → A
-no_place e = let z : ◌≡◌ {A = ℕ} 0 1 = cc in absurd (omega arith)
-
-test_none : (b : Bool) (o : Option ℕ) (p : ℕ) → cond b o (Some p) ≡ None → (b ≡ true) × (o ≡ None)
-test_none true o p e = (refl, e)
-test_none false o p e = no_place e
 
 -- none is named: each of the types is low
 pub none_deep : (sig : Sig) (t : ℕ) (ts : List (List (List ℕ))) (p : ℕ) → deep_from sig t ts p ≡ None → (k : ℕ) → k < length ts → least_of sig (t + k) ≤ 8

@@ -1,6 +1,7 @@
 -- The verdict accepts exactly the encodings of lawful problems: the records are exact, the types are looked at in the sense of
 -- values, and the terms are read exactly.
 use Rattle.std.proofs.Common.{◌≡◌, ℕ, zero, suc, ◌+◌, ◌<◌, ◌≤◌, List, [], ◌∷◌, ◌++◌, map, length, Some, None, Ok, Err, Option, Result, sym, refl, ap, ◌∙◌, subst, arith}
+use Rattle.std.proofs.lemmas.List.{length-map}
 use Rattle.syntax.specs.declared.faults.Fault.{Fault}
 use Rattle.syntax.specs.declared.faults.Reason.{Reason}
 use Rattle.syntax.specs.declared.faults.Reason.TheVariants.{Undeclared, NoValue}
@@ -11,6 +12,7 @@ use Rattle.syntax.specs.Least.{least_of}
 use Rattle.syntax.specs.Problems.{Function, Problem, Each, bool, sig_of, concat, encode_type, encode_function, encode_unknown, encode_goal, encode_end, encode_problem, FewTypes, LawfulType, LawfulFunction, LawfulGoal, Lawful}
 use Rattle.records.specs.Raw.{Raw, RawFunction, write, write_function, write_goal, Few, Within}
 use Rattle.records.specs.Reading.{records}
+use Rattle.records.proofs.Results.{never_ok, was_ok, then_ok}
 use Rattle.tables.specs.Exact.{Bytes}
 use Rattle.tables.specs.Tabled.{declared_by, functions_start, goals_start}
 use Rattle.tables.proofs.Exactness.{reading_exact, reads_back}
@@ -19,7 +21,6 @@ use Rattle.declarations.specs.Laws.{AllDeclared}
 use Rattle.declarations.proofs.Declared.{undeclared_is_exact_lem}
 use Rattle.verdict.specs.Verdict.{deep, unless, types_in, bodies_in, goals_in, terms_in, verdict}
 use Rattle.verdict.specs.Exact.{Encodes, OneProblem, VerdictIsExact}
-use Rattle.verdict.proofs.Results.{never_ok, was_ok, then_ok}
 use Rattle.verdict.proofs.Bodies.{TypedBody, AreBodies, bodies_sound, raw_function, bodies_complete, AreGoals, goals_sound, goals_complete}
 use Rattle.verdict.proofs.Deep.{shallow_low, low_shallow, none_deep, deep_none}
 
@@ -157,10 +158,6 @@ goals_same : (gs : List Term) → concat write_goal (map encode gs) ≡ concat e
 goals_same [] = refl
 goals_same (g ∷ gs) = ap (λ x. encode_goal g ++ x) (goals_same gs)
 
-map_long : {A B : Type 0} (f : A → B) (xs : List A) → length (map f xs) ≡ length xs
-map_long f [] = refl
-map_long f (x ∷ xs) = ap suc (map_long f xs)
-
 each_map : {A B : Type 0} (f : A → B) (P : B → Type 0) (xs : List A) → Each (λ x. P (f x)) xs → Each P (map f xs)
 each_map f P [] h = tt
 each_map f P (x ∷ xs) h = (h.0, each_map f P xs h.1)
@@ -182,8 +179,8 @@ module _ (p : Problem) (l : Lawful p) where
 
   within : Within R
   within =
-      let longs = map_long raw_function p.functions in
-      let manys = map_long encode p.goals in
+      let longs = length-map p.functions raw_function in
+      let manys = length-map p.goals encode in
       let few = l.few_functions in
       let fewer = l.few_goals in
       record {

@@ -14,19 +14,16 @@ use Rattle.syntax.specs.Typing.{Sig, Profile}
 use Rattle.syntax.specs.Problems.{Function, Problem, Each, bool, concat, encode_type, encode_unknown, encode_end}
 use Rattle.records.specs.Raw.{Raw, RawFunction, write, write_function, write_goal, Few, Within}
 use Rattle.records.specs.Reading.{and_then, records}
+use Rattle.records.proofs.Results.{never_ok, then_ok}
 use Rattle.tables.specs.Tabled.{places_of, mark_at, body_at, term_at, functions_start, unknowns_start, goals_start, part_in, function_in, declared_by, Declares, Locates}
 use Rattle.reading.specs.Reading.{reading}
 use Rattle.declarations.specs.Numbers.{Low}
 use Rattle.depths.specs.Least.{Leasts}
 use Rattle.verdict.specs.Verdict.{term_in, types_in, bodies_in, goals_in, terms_in, verdict}
 use Rattle.verdict.specs.ByTables.{fault_of, bodies_by, goals_by, terms_by, FitFunctions}
-use Rattle.verdict.proofs.Results.{never_ok, then_ok}
 
 apart : {A B : Type 0} {x : B} {xs : List B} → ◌≡◌ {A = List B} [] (x ∷ xs) → A
 apart e = let z : ◌≡◌ {A = ℕ} 0 1 = cc in absurd (omega arith)
-
-apart' : {A B : Type 0} {x : B} {xs : List B} → ◌≡◌ {A = List B} (x ∷ xs) [] → A
-apart' e = let z : ◌≡◌ {A = ℕ} 0 1 = cc in absurd (omega arith)
 
 module _ (S : Sig) (bs : List ℕ) where
   -- one function in front of others
@@ -39,7 +36,7 @@ module _ (S : Sig) (bs : List ℕ) where
       → map (λ f. f.body.start) fs ≡ places_of body_at write_function p rs → bodies_by S bs fs ≡ bodies_in S rs p
   same_bodies [] [] p e f = refl
   same_bodies [] (r ∷ rs) p e f = apart e
-  same_bodies (d ∷ ds) [] p e f = apart' e
+  same_bodies (d ∷ ds) [] p e f = apart (sym e)
   same_bodies (d ∷ ds) (r ∷ rs) p e f =
       let same : function_in bs d ≡ r = cc in
       let rest : map (function_in bs) ds ≡ rs = cc in
@@ -56,7 +53,7 @@ module _ (S : Sig) (bs : List ℕ) where
       → map (λ g. g.start) gs ≡ places_of term_at write_goal p rs → goals_by S bs gs ≡ goals_in S rs p
   same_goals [] [] p e f = refl
   same_goals [] (r ∷ rs) p e f = apart e
-  same_goals (d ∷ ds) [] p e f = apart' e
+  same_goals (d ∷ ds) [] p e f = apart (sym e)
   same_goals (d ∷ ds) (r ∷ rs) p e f =
       let same : part_in bs d ≡ r = cc in
       let rest : map (part_in bs) ds ≡ rs = cc in
@@ -125,7 +122,7 @@ module _ (raw : Raw) (sig : Signature) (start : ℕ) (within : Within raw)
 few_params : (fs : List Callable) (rs : List RawFunction) → map profile_in fs ≡ map (λ f. f.profile) rs → Each (λ f. Few f.profile.params) rs
     → (k : ℕ) (d : Callable) → k < length fs → length (listed (get_or fs k d).params) ≤ 64
 few_params [] rs e f k d l = absurd (omega arith)
-few_params (x ∷ fs) [] e f k d l = apart' e
+few_params (x ∷ fs) [] e f k d l = apart (sym e)
 few_params (x ∷ fs) (r ∷ rs) e f zero d l =
     let same : profile_in x ≡ r.profile = cc in
     let few = subst (λ (q : Profile). length q.params ≤ 6) (sym same) f.0 in

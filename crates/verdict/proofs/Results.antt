@@ -1,19 +1,8 @@
--- What came before where a chain of readings came to its end. A chain that ends well had each of its links end well.
-use Rattle.std.proofs.Common.{◌≡◌, ℕ, Ok, Err, Result, refl, ap, arith}
-use Rattle.syntax.specs.declared.faults.Fault.{Fault}
+-- A term that was read.
+use Rattle.std.proofs.Common.{◌≡◌, ℕ, Ok, Err, Result, ap}
 use Rattle.syntax.specs.Terms.{Term}
-use Rattle.records.specs.Reading.{and_then}
+use Rattle.records.proofs.Results.{never_ok}
 use Rattle.verdict.specs.Verdict.{term_in}
-
-pub never_ok : {A B E : Type 0} {e : E} {x : A} → ◌≡◌ {A = Result A E} (Err e) (Ok x) → B
-never_ok q = let z : ◌≡◌ {A = ℕ} 0 1 = cc in absurd (omega arith)
-
-pub was_ok : {A B : Type 0} (r : Result A Fault) (f : A → Result B Fault) {y : B} → and_then r f ≡ Ok y → (x : A) × (r ≡ Ok x) × (f x ≡ Ok y)
-was_ok (Ok x) f e = (x, refl, e)
-was_ok (Err e) f q = never_ok q
-
-pub then_ok : {A B : Type 0} {r : Result A Fault} {x : A} (f : A → Result B Fault) → r ≡ Ok x → and_then r f ≡ f x
-then_ok f e = ap (λ r. and_then r f) e
 
 pub term_was : (r : Result Term ℕ) {t : Term} → term_in r ≡ Ok t → r ≡ Ok t
 term_was (Ok u) e = let q : u ≡ _ = cc in ap Ok q

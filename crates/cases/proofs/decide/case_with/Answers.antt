@@ -1,5 +1,6 @@
 use Rattle.std.proofs.Common.{length, refl, ap, arith}
-use Rattle.judge.proofs.Limits.{lawful, arguments_few}
+use Rattle.problem.proofs.Lawfulness.{lawful}
+use Rattle.judge.proofs.Limits.{arguments_few}
 use Rattle.cases.proofs.decide.case_with.Goals as goal
 
 pub overflow_cast-result : goal.overflow_cast-result

@@ -3,7 +3,8 @@ use Rattle.syntax.specs.Problems.{sig_of}
 use Rattle.syntax.specs.Typing.{cases_of}
 use Rattle.problem.specs.Meant.{meant}
 use Rattle.places.specs.Places.{offset}
-use Rattle.judge.proofs.Limits.{lawful, arguments_few}
+use Rattle.problem.proofs.Lawfulness.{lawful}
+use Rattle.judge.proofs.Limits.{arguments_few}
 use Rattle.cases.proofs.Offsets.{none_before, one_more}
 use Rattle.cases.proofs.decide.children_before.Goals as goal
 

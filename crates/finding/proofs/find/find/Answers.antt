@@ -1,4 +1,4 @@
-use Rattle.judge.proofs.Limits.{lawful}
+use Rattle.problem.proofs.Lawfulness.{lawful}
 use Rattle.finding.proofs.ByCases.{finds}
 use Rattle.finding.specs.Findings.{forced}
 use Rattle.finding.proofs.find.find.Goals as goal

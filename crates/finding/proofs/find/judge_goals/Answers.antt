@@ -1,6 +1,6 @@
 use Rattle.std.proofs.Common.{ℕ, ◌+◌, length, length-take, Option, sym, ◌∙◌, subst, arith}
 use Rattle.problem.specs.Meant.{meant}
-use Rattle.judge.proofs.Limits.{lawful}
+use Rattle.problem.proofs.Lawfulness.{lawful}
 use Rattle.finder.specs.Findings.{finding}
 use Rattle.finding.specs.Findings.{forced}
 use Rattle.finding.proofs.InTurn.{InTurn, ahead, at_start, none_waits, one_waits, passed_over, found_out, found_false, goes_true, goes_waiting}

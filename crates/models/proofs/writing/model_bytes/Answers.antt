@@ -1,6 +1,6 @@
 use Rattle.std.proofs.Common.{length, ap, arith}
 use Rattle.std.proofs.lemmas.Bool.{false≢true}
-use Rattle.judge.proofs.Limits.{lawful}
+use Rattle.problem.proofs.Lawfulness.{lawful}
 use Rattle.models.proofs.Recording.{mark_fits, value_refused, record_written, all_recorded}
 use Rattle.models.proofs.writing.model_bytes.Goals as goal
 

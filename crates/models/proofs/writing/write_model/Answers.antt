@@ -1,6 +1,6 @@
 use Rattle.std.proofs.Common.{◌++◌, length, drop, refl, ap, ◌∙◌, arith}
 use Rattle.problem.specs.Meant.{meant}
-use Rattle.judge.proofs.Limits.{lawful}
+use Rattle.problem.proofs.Lawfulness.{lawful}
 use Rattle.models.proofs.Recording.{writes_model}
 use Rattle.models.proofs.writing.write_model.Goals as goal
 

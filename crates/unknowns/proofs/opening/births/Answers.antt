@@ -7,7 +7,8 @@ use Rattle.syntax.specs.Typing.{cases_of}
 use Rattle.syntax.specs.Problems.{sig_of}
 use Rattle.problem.specs.Meant.{meant}
 use Rattle.places.specs.Places.{births}
-use Rattle.unknowns.proofs.Limits.{lawful, births_few, births_sum}
+use Rattle.problem.proofs.Lawfulness.{lawful}
+use Rattle.unknowns.proofs.Limits.{births_few, births_sum}
 use Rattle.unknowns.proofs.opening.births.Goals as goal
 
 pub sum-requires-clause-fits : goal.sum-requires-clause-fits

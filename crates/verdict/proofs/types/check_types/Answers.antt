@@ -1,7 +1,7 @@
 use Rattle.std.proofs.Common.{◌≡◌, Err, length, sym, ap, ◌∙◌, subst}
 use Rattle.std.proofs.lemmas.List.{length-take-le}
 use Rattle.syntax.proofs.Entries.{no_datatype}
-use Rattle.verdict.proofs.Results.{never_ok}
+use Rattle.records.proofs.Results.{never_ok}
 use Rattle.syntax.specs.Tables.{declared_in}
 use Rattle.depths.specs.Least.{Leasts}
 use Rattle.verdict.proofs.Examining.{front_written}

@@ -1,6 +1,6 @@
 -- A lawful problem has at most 32 goals, so their numbers fit a byte.
 use Rattle.std.proofs.Common.{arith}
-use Rattle.unknowns.proofs.Limits.{lawful}
+use Rattle.problem.proofs.Lawfulness.{lawful}
 use Rattle.seek.proofs.searching.Seeker.seek.Goals as goal
 
 pub overflow_cast-goals : goal.overflow_cast-goals

@@ -1,7 +1,7 @@
 -- A lawful problem has at most 32 goals.
 use Rattle.std.proofs.Common.{refl, sym, arith}
 use Rattle.problem.specs.Meant.{meant}
-use Rattle.unknowns.proofs.Limits.{lawful}
+use Rattle.problem.proofs.Lawfulness.{lawful}
 use Rattle.sessions.proofs.Starts.{shows_start}
 use Rattle.sessions.proofs.session.Begun.new.Goals as goal
 

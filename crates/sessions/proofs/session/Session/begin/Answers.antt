@@ -1,7 +1,7 @@
 -- The chooser is new, and has a variable left for each goal.
 use Rattle.std.proofs.Common.{rules, Err, ap, ◌∙◌, arith}
 use Rattle.std.proofs.lemmas.Result.{err_from_is_err_and}
-use Rattle.unknowns.proofs.Limits.{lawful}
+use Rattle.problem.proofs.Lawfulness.{lawful}
 use Rattle.sessions.specs.declared.faults.SessionFault.TheVariants.{TooFewVariables}
 use Rattle.sessions.proofs.Starts.{refused_old, refused_few, begun_so}
 use Rattle.sessions.proofs.session.Session.begin.Goals as goal

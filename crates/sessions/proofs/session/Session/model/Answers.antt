@@ -2,7 +2,7 @@
 use Rattle.std.proofs.Common.{Ok, Err, refl, ap, ◌∙◌, subst}
 use Rattle.std.proofs.lemmas.Result.{err_from_is_err_and}
 use Rattle.problem.specs.Meant.{meant}
-use Rattle.unknowns.proofs.Limits.{lawful}
+use Rattle.problem.proofs.Lawfulness.{lawful}
 use Rattle.sessions.specs.Shown.{ShowsIn}
 use Rattle.sessions.proofs.Handing.{modelled_so}
 use Rattle.sessions.proofs.session.Session.model.Goals as goal

@@ -2,7 +2,7 @@
 use Rattle.std.proofs.Common.{length, map, ap, ◌∙◌, arith}
 use Rattle.problem.specs.Meant.{meant}
 use Rattle.unknowns.specs.Opening.{unopened}
-use Rattle.unknowns.proofs.Limits.{lawful}
+use Rattle.problem.proofs.Lawfulness.{lawful}
 use Rattle.unknowns.proofs.Beginning.{begins}
 use Rattle.unknowns.proofs.table.Table.new.Goals as goal
 
