@@ -1,8 +1,8 @@
 #!/usr/bin/env bash
 # How long searches take, with either chooser, and how long cvc5 takes for the same problems where it is installed: palindromes, sorted
 # lists, sorting, reversal; then a problem that fills the table of unknowns and some with many rounds, and how the time of a round grows.
-# bench/beside_cvc5.py says what is told and compared. There are no problems of 65,535 rounds: each conflict spends at least 3 of the
-# chooser's 32,768 entries.
+# bench/beside_cvc5.py says what is told and compared. There are no problems of 65,535 rounds: a conflict that a case explains spends at
+# least 3 of the 32,768 entries that seek gives its chooser.
 set -eu
 cd "$(dirname "$0")/.."
 for program in seek replay_model; do
