@@ -8,7 +8,7 @@ from statistics import median
 
 
 class Run:
-    """What a run wrote, and what it took; `ended` tells of one that was ended at its limit of processor seconds."""
+    """What a run wrote, and what it took; `ended` tells of one that a signal ended, as it does at the limit of processor seconds."""
 
     def __init__(self, command, limit):
         with tempfile.TemporaryFile() as out, tempfile.TemporaryFile() as err:
@@ -17,7 +17,7 @@ class Run:
             _, status, usage = os.wait4(child.pid, 0)
             self.wall = time.monotonic() - start
             child.returncode = os.waitstatus_to_exitcode(status)  # it is waited for
-            self.ended = child.returncode != 0 and usage.ru_utime + usage.ru_stime > limit - 0.5
+            self.ended = child.returncode < 0
             self.user = usage.ru_utime
             out.seek(0)
             err.seek(0)
