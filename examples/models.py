@@ -2,11 +2,9 @@
 """Writes the example models of this folder: python3 models.py. A model is, for each unknown of its problem in order, the bytes
 4D 44, the unknown's number and its value; 08 stands for an open part."""
 import os
+from writers import con, cons, nil, number
 
 OPEN = [8]
-
-
-def con(t, c, *args): return [2, t, c] + sum(args, [])
 
 
 def write(name, *values):
@@ -14,11 +12,6 @@ def write(name, *values):
         f.write(bytes(sum([[0x4D, 0x44, k] + value for k, value in enumerate(values)], [])))
 
 
-def number(n): return con(1, 0) if n == 0 else con(1, 1, number(n - 1))
-def cons(x, xs): return con(2, 1, x, xs)
-
-
-nil = con(2, 0)
 # Of two-equal-naturals: the natural two, which makes the goal true; three; and the successor of something open, which the goal waits on.
 write("two-equal-naturals.two.model", number(2))
 write("two-equal-naturals.three.model", number(3))

@@ -98,4 +98,5 @@ def main():
             target.write("\n".join(text) + "\n")
 
 
-main()
+if __name__ == "__main__":
+    main()

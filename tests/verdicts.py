@@ -5,7 +5,7 @@ Every refusal at its exact place, and the edges of every limit: none, the most, 
 import os, sys
 sys.path.insert(0, os.path.join(os.path.dirname(os.path.abspath(__file__)), "..", "examples"))
 sys.dont_write_bytecode = True
-from make import *  # the example problems are written anew on the way, to the same bytes
+from writers import *
 
 CASES = []
 
