@@ -14,7 +14,7 @@ use Rattle.finder.proofs.Asking.{every_both, last_every}
 use Rattle.finder.specs.Asking.{switches_on, switches, deep_cases, denials_at, denials, asked}
 use Rattle.finder.proofs.Tables.{opening_entry}
 use Rattle.unknowns.specs.Listing.{taken_by, taken}
-use Rattle.assuming.specs.Assumes.{forced}
+use Rattle.unknowns.specs.Force.{forced}
 
 -- the variables of an opened entry are below `count`
 abbrev pub Below : Problem → ℕ → Entry → Type 0

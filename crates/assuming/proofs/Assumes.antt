@@ -4,10 +4,11 @@ use Rattle.syntax.specs.Problems.{Problem, sig_of}
 use Rattle.finder.specs.Levels.{measures}
 use Rattle.finder.specs.Tables.{Table}
 use Rattle.finder.specs.Asking.{switches, denials}
+use Rattle.unknowns.specs.Force.{forced}
 use Rattle.unknowns.specs.Listing.{Stands}
 use Rattle.unknowns.specs.declared.table.Table.{Table as Code}
 use Rattle.assuming.specs.declared.writer.LiteralWriter.{LiteralWriter}
-use Rattle.assuming.specs.Assumes.{forced, AssumesSo, Assumes}
+use Rattle.assuming.specs.Assumes.{AssumesSo, Assumes}
 use Rattle.assuming.specs.Written.{Pushed}
 use Rattle.assuming.specs.Denied.{denials as rows-denials}
 use Rattle.assuming.proofs.Written.{first_written, all_written}

@@ -1,17 +1,14 @@
 -- What a round's question assumes, as the code writes it. Assumes nothing.
-use Rattle.std.specs.Prelude.{◌≡◌, ℕ, ◌≤◌, Bool, true, false, List, length, take, slice_index_or}
+use Rattle.std.specs.Prelude.{◌≡◌, ℕ, ◌≤◌, Bool, true, List, length, take}
 use Rattle.chooser.specs.Ways.{allotted}
 use Rattle.syntax.specs.Problems.{Problem}
 use Rattle.finder.specs.Levels.{measures}
 use Rattle.finder.specs.Tables.{Table}
 use Rattle.finder.specs.Asking.{switches, asked}
+use Rattle.unknowns.specs.Force.{forced}
 use Rattle.unknowns.specs.Listing.{Stands}
 use Rattle.unknowns.specs.declared.table.Table.{Table as Code}
 use Rattle.assuming.specs.declared.Assumed.{Assumed}
-
--- the goals in force, of which none is past the end of the list
-abbrev pub forced : List Bool → ℕ → Bool
-forced force g = slice_index_or force g false
 
 -- The numbers in `after` begin with the switches, and with all that is asked; and these are literals of variables below `count`.
 pub record AssumesSo (p : Problem) (T : Table) (count : ℕ) (force : List Bool) (n : ℕ) (after : List ℕ) (r : Assumed) : Type 0 where

@@ -2,7 +2,7 @@
 ghost use Rattle.std.specs.Prelude.{◌≡◌};
 ghost use Rattle.finder.specs.Asking.{switches};
 ghost use Rattle.problem.specs.Meant.{meant};
-ghost use Rattle.assuming.specs.Assumes.{forced};
+ghost use Rattle.unknowns.specs.Force.{forced};
 ghost use Rattle.assuming.specs.Written.{Pushed};
 
 use crate::writer::LiteralWriter;

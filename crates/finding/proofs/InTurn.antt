@@ -11,7 +11,7 @@ use Rattle.judge.specs.declared.verdicts.Judgement.TheVariants.{False, True, Out
 use Rattle.judge.specs.Outcomes.{outcome, Explained}
 use Rattle.judge.specs.Means.{Explains}
 use Rattle.finder.specs.Findings.{Finding, out_of_steps, false_goal, waiting_goal, all_true, after_waiting, after_goal, finding_from, finding}
-use Rattle.finding.specs.Findings.{forced}
+use Rattle.unknowns.specs.Force.{forced}
 
 -- the whole, with the unknown of the first goal that waited, and what the goals ahead come to
 abbrev pub InTurn : Option ℕ → Finding ℕ → Finding ℕ → Type 0

@@ -1,6 +1,6 @@
 -- What a finding in code says: of the goals as they are judged by numbers, and by the paths of a table that stands.
 -- Assumes nothing.
-use Rattle.std.specs.Prelude.{◌≡◌, ℕ, ◌<◌, Bool, true, false, List, ◌∷◌, length, Option, slice_index_or}
+use Rattle.std.specs.Prelude.{◌≡◌, ℕ, ◌<◌, Bool, true, List, ◌∷◌, length, Option}
 use Rattle.std.proofs.Math.Option.{none}
 use Rattle.syntax.specs.Problems.{Problem}
 use Rattle.judging.specs.Judging.{Unknowns}
@@ -13,15 +13,12 @@ use Rattle.finder.specs.Clauses.{off}
 use Rattle.finder.specs.Conflicts.{conflict, conflict_clause}
 use Rattle.finder.specs.Findings.{finding, out_of_steps, false_goal, waiting_goal, all_true}
 use Rattle.places.specs.Places.{at, marked_literals}
+use Rattle.unknowns.specs.Force.{forced}
 use Rattle.unknowns.specs.Listing.{Stands, DecidesAs}
 use Rattle.unknowns.specs.declared.table.Table.{Table as Code}
 use Rattle.unknowns.specs.declared.table.Case.{Case}
 use Rattle.finding.specs.declared.find.Finding.{Finding}
 use Rattle.finding.specs.declared.find.Finding.TheVariants.{Out, False, Waiting, True}
-
--- the goal is in force
-abbrev pub forced : List Bool → ℕ → Bool
-forced force g = slice_index_or force g false
 
 -- what is found when the goals are judged by the unknowns K, with a false goal's explanation in the set `words`
 abbrev pub FindsBy : Problem → Unknowns ℕ → (ℕ → Bool) → ℕ → List ℕ → Finding → Type 0

@@ -1,7 +1,8 @@
 // Judges the goals in force by the cases of a way.
 ghost use Rattle.std.specs.Prelude.{◌≡◌, ◌*◌, ◌≤◌, length};
 ghost use Rattle.problem.specs.Meant.{meant};
-ghost use Rattle.finding.specs.Findings.{forced, FindsBy, FoundAs};
+ghost use Rattle.unknowns.specs.Force.{forced};
+ghost use Rattle.finding.specs.Findings.{FindsBy, FoundAs};
 
 use cases::cases::Cases;
 use held::explanation::Explanation;

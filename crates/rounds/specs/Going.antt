@@ -8,7 +8,7 @@ use Rattle.finder.specs.Conflicts.{Conflict}
 use Rattle.histories.specs.Rounds.{Answer as Told, Known, Runs}
 use Rattle.unknowns.specs.Listing.{Stands}
 use Rattle.unknowns.specs.declared.table.Table.{Table as Code}
-use Rattle.assuming.specs.Assumes.{forced}
+use Rattle.unknowns.specs.Force.{forced}
 use Rattle.rounds.specs.declared.search.Search.{Search}
 use Rattle.rounds.specs.Turns.{known}
 

@@ -12,7 +12,7 @@ use Rattle.unknowns.specs.declared.table.Table.{Table as Code}
 use Rattle.unknowns.specs.declared.table.Case.{Case}
 use Rattle.answers.specs.declared.answer.Answer.{Answer}
 use Rattle.answers.specs.Told.{answer_of}
-use Rattle.assuming.specs.Assumes.{forced}
+use Rattle.unknowns.specs.Force.{forced}
 use Rattle.rounds.specs.declared.search.Search.{Search}
 use Rattle.rounds.specs.Turns.{known}
 

@@ -18,7 +18,7 @@ use Rattle.unknowns.specs.declared.table.Table.{Table as Code}
 use Rattle.unknowns.specs.declared.table.Case.{Case}
 use Rattle.answers.specs.declared.answer.Outcome.{Outcome}
 use Rattle.answers.specs.declared.answer.Outcome.TheVariants.{Model, None, Never, Foreign, SpentRounds, SpentSteps, SpentUnknowns, SpentChooser}
-use Rattle.assuming.specs.Assumes.{forced}
+use Rattle.unknowns.specs.Force.{forced}
 use Rattle.rounds.specs.declared.search.Search.{Search}
 use Rattle.rounds.specs.declared.turn.Turn.{Turn}
 use Rattle.rounds.specs.Turns.{known, TurnedBy}

@@ -1,2 +1,3 @@
+pub mod Force
 pub mod Listing
 pub mod Opening

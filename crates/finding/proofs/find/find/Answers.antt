@@ -1,6 +1,6 @@
 use Rattle.problem.proofs.Lawfulness.{lawful}
 use Rattle.finding.proofs.ByCases.{finds}
-use Rattle.finding.specs.Findings.{forced}
+use Rattle.unknowns.specs.Force.{forced}
 use Rattle.finding.proofs.find.find.Goals as goal
 
 pub returns-clause-found_as : goal.returns-clause-found_as

@@ -2,7 +2,7 @@ use Rattle.std.proofs.Common.{ℕ, ◌+◌, length, length-take, Option, sym, �
 use Rattle.problem.specs.Meant.{meant}
 use Rattle.problem.proofs.Lawfulness.{lawful}
 use Rattle.finder.specs.Findings.{finding}
-use Rattle.finding.specs.Findings.{forced}
+use Rattle.unknowns.specs.Force.{forced}
 use Rattle.finding.proofs.InTurn.{InTurn, ahead, at_start, none_waits, one_waits, passed_over, found_out, found_false, goes_true, goes_waiting}
 use Rattle.finding.proofs.find.judge_goals.Goals.{in-Waiting, in-True}
 use Rattle.finding.proofs.find.judge_goals.Goals as goal

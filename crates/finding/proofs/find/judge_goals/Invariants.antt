@@ -1,7 +1,7 @@
 use Rattle.std.proofs.Common.{length}
 use Rattle.problem.specs.Meant.{meant}
 use Rattle.finder.specs.Findings.{finding}
-use Rattle.finding.specs.Findings.{forced}
+use Rattle.unknowns.specs.Force.{forced}
 use Rattle.finding.proofs.InTurn.{InTurn, ahead}
 use Rattle.finding.proofs.find.judge_goals.Given as goal
 

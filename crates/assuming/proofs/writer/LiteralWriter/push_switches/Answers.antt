@@ -4,7 +4,7 @@ use Rattle.std.proofs.lemmas.Bool.{cond-true, cond-false, cases_lt}
 use Rattle.std.proofs.lemmas.List.{get_or-take, get_or_default, length-take}
 use Rattle.finder.specs.Clauses.{on}
 use Rattle.finder.specs.Asking.{switches_on}
-use Rattle.assuming.specs.Assumes.{forced}
+use Rattle.unknowns.specs.Force.{forced}
 use Rattle.assuming.specs.Written.{Pushed}
 use Rattle.assuming.proofs.Written.{pushed_both}
 use Rattle.assuming.proofs.Asked.{switches_past}

@@ -1,7 +1,7 @@
 -- The switches of the goals below the next are written.
 use Rattle.std.proofs.Common.{◌≡◌}
 use Rattle.finder.specs.Asking.{switches_on}
-use Rattle.assuming.specs.Assumes.{forced}
+use Rattle.unknowns.specs.Force.{forced}
 use Rattle.assuming.specs.Written.{Pushed}
 use Rattle.assuming.proofs.writer.LiteralWriter.push_switches.Given as goal
 

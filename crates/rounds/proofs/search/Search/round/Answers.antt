@@ -5,7 +5,7 @@ use Rattle.chooser.specs.Meaning.{Meaning}
 use Rattle.problem.specs.Meant.{meant}
 use Rattle.finder.specs.Levels.{measures}
 use Rattle.finder.specs.Asking.{switches, asked}
-use Rattle.assuming.specs.Assumes.{forced}
+use Rattle.unknowns.specs.Force.{forced}
 use Rattle.answers.specs.declared.answer.Outcome.TheVariants.{Foreign}
 use Rattle.rounds.specs.Steps.{LeftUnder}
 use Rattle.rounds.specs.Turns.{known, Closes}
