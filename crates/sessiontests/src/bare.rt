@@ -1,6 +1,5 @@
 // A chooser without variables and entries.
-ghost use Rattle.sessiontests.specs.Means.{bare_means};
-ghost use Rattle.sessiontests.proofs.Laws.{bare_laws};
+ghost use Rattle.sessiontests.specs.Means.{bare_means, bare_laws};
 
 use chooser::{Answer, Chooser, Fault};
 
