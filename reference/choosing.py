@@ -1,13 +1,14 @@
 """A chooser: clauses over variables 0, 1, .., and an assignment that meets them and some assumptions, by plain DPLL.
 
-A literal is (variable, value). The pick is the last open variable of the longest unmet clause, and true comes first.
+A literal is (variable, value). Of the unmet clauses with fewest open literals the latest one is taken, and its last open
+variable becomes true first.
 """
 
 
 class Chooser:
     def __init__(self):
         self.variables = 0
-        self.clauses = []
+        self.clauses = []  # (the variables that may be true, those that may be false), as sets of bits
         self.by_variable = {}
 
     def new_variable(self):
@@ -15,69 +16,94 @@ class Chooser:
         return self.variables - 1
 
     def add(self, clause):
+        true = false = 0
+        for variable, value in clause:
+            if value:
+                true |= 1 << variable
+            else:
+                false |= 1 << variable
+        if true & false:
+            return  # every assignment meets it
         for variable, _ in clause:
             self.by_variable.setdefault(variable, []).append(len(self.clauses))
-        self.clauses.append(list(clause))
+        self.clauses.append((true, false))
 
-    def ask(self, assumptions):
-        """A dict from every variable to its value, or None if no assignment will do."""
-        values = {}
-        trail = []
-        units = [clause[0] for clause in self.clauses if len(clause) == 1]
-        if any(not clause for clause in self.clauses):
-            return None
-        if not self.set_all(values, trail, list(assumptions) + units):
-            return None
-        picks = []  # (length of the trail before the pick, the literal)
+    def ask(self, assumptions, clause=None):
+        """A list of every variable's value, or None if no assignment will do. A clause holds for this question alone."""
+        if clause is not None:
+            other = Chooser()
+            other.variables = self.variables
+            other.clauses = list(self.clauses)
+            other.by_variable = {variable: list(row) for variable, row in self.by_variable.items()}
+            other.add(clause)
+            return other.ask(assumptions)
+        search = Search(self)
+        pending = list(assumptions)
+        for true, false in self.clauses:
+            if (true | false).bit_count() == 1:
+                pending.append(((true | false).bit_length() - 1, bool(true)))
+            elif not true | false:
+                return None
+        picks = []
+        is_lawful = search.set_all(pending)
         while True:
-            literal = self.pick(values)
-            if literal is None:
-                return {v: values.get(v, False) for v in range(self.variables)}
-            picks.append((len(trail), literal))
-            pending = [literal]
-            while not self.set_all(values, trail, pending):
+            if not is_lawful:
                 if not picks:
                     return None
-                length, (variable, value) = picks.pop()
-                for undone in trail[length:]:
-                    del values[undone]
-                del trail[length:]
-                pending = [(variable, not value)]
+                search.true, search.false, variable = picks.pop()
+                is_lawful = search.set_all([(variable, False)])
+                continue
+            variable = search.pick()
+            if variable is None:
+                return [bool(search.true >> v & 1) for v in range(self.variables)]
+            picks.append((search.true, search.false, variable))
+            is_lawful = search.set_all([(variable, True)])
 
-    def set_all(self, values, trail, pending):
+
+class Search:
+    """What is set so far, as two sets of bits."""
+
+    def __init__(self, chooser):
+        self.clauses = chooser.clauses
+        self.by_variable = chooser.by_variable
+        self.true = self.false = 0
+
+    def set_all(self, pending):
         """Sets the literals and what follows by unit clauses; False on a clash."""
         while pending:
             variable, value = pending.pop()
-            if variable in values:
-                if values[variable] != value:
-                    return False
+            bit = 1 << variable
+            if bit & (self.false if value else self.true):
+                return False
+            if bit & (self.true if value else self.false):
                 continue
-            values[variable] = value
-            trail.append(variable)
+            if value:
+                self.true |= bit
+            else:
+                self.false |= bit
             for number in self.by_variable.get(variable, ()):
-                is_met, opened = self.state(self.clauses[number], values)
-                if is_met:
+                opened = self.opened(self.clauses[number])
+                if opened is None:
                     continue
                 if not opened:
                     return False
-                if len(opened) == 1:
-                    pending.append(opened[0])
+                if not opened & (opened - 1):
+                    pending.append((opened.bit_length() - 1, bool(opened & self.clauses[number][0])))
         return True
 
-    @staticmethod
-    def state(clause, values):
-        opened = []
-        for variable, value in clause:
-            if variable not in values:
-                opened.append((variable, value))
-            elif values[variable] == value:
-                return True, opened
-        return False, opened
+    def opened(self, clause):
+        """The open variables of a clause, or None if it is met."""
+        true, false = clause
+        if true & self.true or false & self.false:
+            return None
+        return (true | false) & ~(self.true | self.false)
 
-    def pick(self, values):
-        best = []
-        for clause in self.clauses:
-            is_met, opened = self.state(clause, values)
-            if not is_met and len(opened) > len(best):
+    def pick(self):
+        best = None
+        for clause in reversed(self.clauses):
+            opened = self.opened(clause)
+            if opened and (best is None or opened.bit_count() < best.bit_count()):
                 best = opened
-        return (max(best)[0], True) if best else None
+                if best.bit_count() == 2:
+                    break
+        return None if best is None else best.bit_length() - 1

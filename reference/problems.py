@@ -18,6 +18,16 @@ class Refused(Exception):
         self.place = place
 
 
+class Unknown:
+    """An unknown of a problem, or a child of one: each stands once, so that it is its own name."""
+
+    __slots__ = ("type", "children")
+
+    def __init__(self, t):
+        self.type = t
+        self.children = {}
+
+
 class Problem:
     """types[t] has a list of argument types for each constructor; functions are (parameters, result, body)."""
 
@@ -27,10 +37,17 @@ class Problem:
         self.unknowns = []
         self.goals = []
         self.least = []
+        self.roots = []
 
     def need(self, t, c):
         arguments = self.types[t][c]
         return 1 + max(self.least[a] for a in arguments) if arguments else 1
+
+    def parts(self, unknown, c):
+        """The children of an unknown, if its constructor is c."""
+        if c not in unknown.children:
+            unknown.children[c] = tuple([Unknown(a) for a in self.types[unknown.type][c]])
+        return unknown.children[c]
 
 
 class Records:
@@ -189,9 +206,9 @@ class Terms:
             branches = [(wanted, scope + arguments) for arguments in types[t]]
             self.then([(t, scope)] + branches, lambda made: ("case", made[0], tuple(made[1:])))
         elif tag == 5:
-            self.then([(BOOL, scope)] * 2, lambda made: ("and", made[0], made[1]))
+            self.then([(BOOL, scope)] * 2, lambda made: ("conjunction", made[0], made[1]))
         elif tag == 6:
-            self.then([(BOOL, scope)], lambda made: ("not", made[0]))
+            self.then([(BOOL, scope)], lambda made: ("negation", made[0]))
         else:
             t = self.byte(lambda b: b < len(types))
             self.then([(t, scope)] * 2, lambda made: ("equal", made[0], made[1]))
@@ -213,4 +230,5 @@ def read_problem(data):
         function[2] = Terms(problem, data, start, end).read(function[1], function[0])
     for start, end in records.goals:
         problem.goals.append(Terms(problem, data, start, end).read(BOOL, ()))
+    problem.roots = [Unknown(t) for t in problem.unknowns]
     return problem
