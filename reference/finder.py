@@ -1,4 +1,4 @@
-"""The reference finder's commands: python3 finder.py check FILE | replay FILE MODEL | seek [OPTIONS] FILE."""
+"""The reference finder's commands: python3 finder.py check FILE | list FILE | replay FILE MODEL | seek [OPTIONS] FILE."""
 
 import argparse
 import sys
@@ -30,26 +30,55 @@ def replay_lines(data, model):
     return [f"goal {goal} {WORDS[word]}" for goal, word in enumerate(found)]
 
 
-def seek(problem, deepest, rounds, steps, **limits):
-    """The lines of the searches to rising depths, and the bytes of the model if there is one."""
-    session = Session(problem, **limits)
+def list_lines(data):
+    """What a problem has, or the line that refuses it."""
+    try:
+        problem = read_problem(data)
+    except Refused as refused:
+        return [str(refused)]
+    counts = [len(problem.types), len(problem.functions), len(problem.unknowns), len(problem.goals)]
+    lines = ["types {}, functions {}, unknowns {}, goals {}".format(*counts)]
+    for t, constructors in enumerate(problem.types):
+        needs = "".join(f" {problem.need(t, c)}" for c in range(len(constructors)))
+        lines.append(f"type {t}: least depth {problem.least[t]}, needs{needs}")
+    return lines
+
+
+def seek(problem, deepest, rounds, steps):
+    """The answers of searches to rising depths with all goals in force, and the model if there is one."""
+    session = Session(problem)
     for goal in range(len(problem.goals)):
         session.put(goal)
-    lines, model = [], None
+    answers = []
     for depth in range(1, deepest + 1):
-        answer = session.search(depth, rounds, steps)
-        lines.append(answer.line())
-        if answer.word == "MODEL":
-            lines += show(problem, session.model)
-            model = write_model(problem, session.model)
-        if answer.word != "NONE":
+        answers.append(session.search(depth, rounds, steps))
+        if answers[-1].word != "NONE":
             break
-    return lines, model
+    return answers, session.model
+
+
+def seek_lines(problem, options):
+    number = Session(problem).search_refusal(options.depth, options.rounds, options.steps)
+    if number:
+        sys.exit(number)
+    answers, model = seek(problem, options.depth, options.rounds, options.steps)
+    lines = [answer.line() for answer in answers]
+    if model is None:
+        return lines
+    if options.kept:
+        with open(options.kept, "wb") as file:
+            file.write(write_model(problem, model))
+    return lines + show(problem, model)
+
+
+def read(path):
+    with open(path, "rb") as file:
+        return file.read()
 
 
 def main():
     parser = argparse.ArgumentParser()
-    parser.add_argument("command", choices=["check", "replay", "seek"])
+    parser.add_argument("command", choices=["check", "list", "replay", "seek"])
     parser.add_argument("problem")
     parser.add_argument("model", nargs="?")
     parser.add_argument("--depth", type=int, default=8)
@@ -57,21 +86,18 @@ def main():
     parser.add_argument("--steps", type=int, default=512)
     parser.add_argument("--model", dest="kept")
     options = parser.parse_args()
-    data = open(options.problem, "rb").read()
+    data = read(options.problem)
     refusal = check(data)
     if refusal or options.command == "check":
-        print(refusal or "accepted")
+        lines = [refusal or "accepted"]
+    elif options.command == "list":
+        lines = list_lines(data)
     elif options.command == "replay":
-        print("\n".join(replay_lines(data, open(options.model, "rb").read())))
+        lines = replay_lines(data, read(options.model))
     else:
-        problem = read_problem(data)
-        number = Session(problem).search_refusal(options.depth, options.rounds, options.steps)
-        if number:
-            sys.exit(number)
-        lines, model = seek(problem, options.depth, options.rounds, options.steps)
-        print("\n".join(lines))
-        if model is not None and options.kept:
-            open(options.kept, "wb").write(model)
+        lines = seek_lines(read_problem(data), options)
+    for line in lines:
+        print(line)
 
 
 if __name__ == "__main__":

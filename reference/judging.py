@@ -130,3 +130,13 @@ def judge(problem, goal, decide, steps):
     except OutOfSteps:
         return OUT, None
     return (WAITING, answer[1]) if answer[0] == "waits" else (answer[1], answer[3])
+
+
+def steps_taken(problem, goal, decide, most):
+    """How many steps a goal's judging takes, or None if more than the most."""
+    judging = Judging(problem, decide, most)
+    try:
+        judging.head(("term", problem.goals[goal], ()))
+    except OutOfSteps:
+        return None
+    return most - judging.steps
