@@ -1,7 +1,8 @@
 """A chooser: clauses over variables 0, 1, .., and an assignment that meets them and some assumptions, by plain DPLL.
 
-A literal is (variable, value). Of the unmet clauses with fewest open literals the latest one is taken, and its last open
-variable becomes true first.
+A literal is (variable, value). Of the unmet clauses with a literal that wants true the latest one is taken, and its last open
+variable becomes true first. Where all these are met, what is still open may be false: each other clause has, once unit clauses
+are followed, a literal that wants false and is not set to true.
 """
 
 
@@ -9,6 +10,7 @@ class Chooser:
     def __init__(self):
         self.variables = 0
         self.clauses = []  # (the variables that may be true, those that may be false), as sets of bits
+        self.wanting = []  # the clauses of which some variable may be true
         self.by_variable = {}
 
     def new_variable(self):
@@ -27,6 +29,8 @@ class Chooser:
         for variable, _ in clause:
             self.by_variable.setdefault(variable, []).append(len(self.clauses))
         self.clauses.append((true, false))
+        if true:
+            self.wanting.append((true, false))
 
     def ask(self, assumptions, clause=None):
         """A list of every variable's value, or None if no assignment will do. A clause holds for this question alone."""
@@ -34,6 +38,7 @@ class Chooser:
             other = Chooser()
             other.variables = self.variables
             other.clauses = list(self.clauses)
+            other.wanting = list(self.wanting)
             other.by_variable = {variable: list(row) for variable, row in self.by_variable.items()}
             other.add(clause)
             return other.ask(assumptions)
@@ -65,6 +70,7 @@ class Search:
 
     def __init__(self, chooser):
         self.clauses = chooser.clauses
+        self.wanting = chooser.wanting
         self.by_variable = chooser.by_variable
         self.true = self.false = 0
 
@@ -99,11 +105,8 @@ class Search:
         return (true | false) & ~(self.true | self.false)
 
     def pick(self):
-        best = None
-        for clause in reversed(self.clauses):
+        for clause in reversed(self.wanting):
             opened = self.opened(clause)
-            if opened and (best is None or opened.bit_count() < best.bit_count()):
-                best = opened
-                if best.bit_count() == 2:
-                    break
-        return None if best is None else best.bit_length() - 1
+            if opened:
+                return opened.bit_length() - 1
+        return None

@@ -122,6 +122,7 @@ def main():
     parser.add_argument("--seed", type=int, default=1)
     parser.add_argument("--count", type=int, default=2000)
     parser.add_argument("--programs", default=os.path.join(here, "..", "crates"))
+    parser.add_argument("--first", action="store_true", help="ends with the first seed that differs")
     parser.add_argument("--keep", default=os.path.join(tempfile.gettempdir(), "reference-differences"))
     options = parser.parse_args()
     tally = Tally(options.keep)
@@ -130,6 +131,8 @@ def main():
         examples(comparing, os.path.join(here, "..", "examples"))
         for seed in range(options.seed, options.seed + options.count):
             one(comparing, seed)
+            if options.first and tally.differences:
+                break
     report(tally)
     sys.exit(1 if tally.differences else 0)
 
