@@ -77,12 +77,13 @@ def one(comparing, seed):
             comparing.replay(seed, data, rng.choice([b"", b"MD\0\x08"]))
             return
     elif chance < 0.38:
-        form = rng.choices(list(exhausting.FORMS), [3, 1, 3, 3])[0]
+        form = rng.choices(list(exhausting.FORMS), [4, 1, 2, 2])[0]
         data, depth = exhausting.FORMS[form](rng)
         comparing.tally.count("made", f"exhausting {form}")
         problem = comparing.check(seed, data)
-        steps = 4096 if form in ("chooser", "unknowns") else rng.choice([5, 20, 100])
-        comparing.search(seed, problem, data, (depth, 60, steps, chooser))
+        steps = 4096 if form in exhausting.BOUND else rng.choice([5, 20, 100])
+        bound = exhausting.BOUND.get(form)
+        comparing.search(seed, problem, data, (depth, 60, steps, chooser), bound=bound)
         return
     elif chance < 0.385:
         comparing.replay(seed, *modelling.long_model(rng))

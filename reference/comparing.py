@@ -75,7 +75,8 @@ class Comparing:
         if steps > 1:
             self.search(label, problem, data, (deepest, 1, steps - 1, chooser), "first round")
 
-    def search(self, label, problem, data, options, kind="search"):
+    def search(self, label, problem, data, options, kind="search", bound=None):
+        """A search of both. `bound` says what of the answers no way of choosing changes: "lines", "words", or None."""
         depth, rounds, steps, chooser = options
         self.tally.count("compared", kind)
         tell = Telling(self.tally, label, f"{kind} {options}", data)
@@ -84,22 +85,23 @@ class Comparing:
         except Failed as failed:
             tell.differ(str(failed))
             return
-        ours, our_model = finder.seek(problem, depth, rounds, steps)
+        ours, session = finder.seek(problem, depth, rounds, steps)
         for answer in answers:
             self.tally.count(f"{kind}: the program", answer.word)
         for answer in ours:
             self.tally.count(f"{kind}: the reference", answer.word)
         if tell.row(answers, depth, rounds):
-            self.outcomes(tell, problem, answers, ours)
-            self.model(tell, problem, answers[-1], steps, lines, model)
-        if our_model is not None:
-            self.our_model(tell, problem, data, our_model)
+            self.outcomes(tell, problem, answers, ours, bound)
+            found = self.model(tell, problem, answers[-1], steps, lines, model)
+            self.opened_alone(tell, answers, session, found)
+        if session.model is not None:
+            self.our_model(tell, problem, data, session.model)
 
-    def outcomes(self, tell, problem, answers, ours):
+    def outcomes(self, tell, problem, answers, ours, bound):
         """That answers to the same depth agree, as far as the rules bind them."""
         deepest_least = max((problem.least[t] for t in problem.unknowns), default=0)
         for theirs, mine in zip(answers, ours):
-            is_bound = mine.is_forced or theirs.depth < deepest_least
+            is_bound = mine.is_forced or theirs.depth < deepest_least or bound == "lines"
             if is_bound:
                 self.tally.count("compared", "answers that no way of choosing changes")
                 if theirs.line != mine.line():
@@ -110,6 +112,8 @@ class Comparing:
                 if (theirs.word == "MODEL") != (mine.word == "MODEL"):
                     tell.differ(f"to depth {mine.depth} the program says {theirs.word}, the reference {mine.word}")
         words = [[answer.word for answer in row] for row in (answers, ours)]
+        if bound is not None and words[0] != words[1]:
+            tell.differ(f"no other outcomes than {words[1][-2:]} may be, but the program has {words[0][-2:]}")
         if ("NEVER" in words[0] and "MODEL" in words[1]) or ("NEVER" in words[1] and "MODEL" in words[0]):
             tell.differ(f"one says NEVER and one MODEL: {words}")
         self.assignments(tell, problem, answers)
@@ -128,21 +132,21 @@ class Comparing:
             tell.differ(f"to depth {last.depth} an assignment is {expected}, but the answer {last.word}")
 
     def model(self, tell, problem, answer, steps, lines, data):
-        """That a model of the program is one by the reference."""
+        """That a model of the program is one by the reference: it, or None."""
         if answer.word != "MODEL":
             if data is not None or lines:
                 tell.differ(f"a model beside {answer.word}: {lines}")
-            return
+            return None
         self.tally.count("compared", "models of the program")
         if data is None:
             tell.differ("no model bytes beside MODEL")
-            return
+            return None
         tell.files["model"] = data
         try:
             model = read_model(problem, data)
         except Refused as refused:
             tell.differ(f"the reference refuses the model: {refused}")
-            return
+            return None
         self.tally.count("models", "with open parts" if b"?" in "".join(lines).encode() else "whole")
         words = [judge(problem, goal, model.get, steps)[0] for goal in range(len(problem.goals))]
         if any(word != TRUE for word in words):
@@ -151,6 +155,15 @@ class Comparing:
             tell.differ(f"the program shows {lines}, the reference {show(problem, model)}")
         if depth_filled(problem, model) > answer.depth or len(data) > MODEL_BYTES_AT_MOST:
             tell.differ(f"the model has {len(data)} bytes and fills to depth {depth_filled(problem, model)}")
+        return model
+
+    def opened_alone(self, tell, answers, session, model):
+        """Which unknown is opened first no chooser can change: a model with one opened unknown shows it."""
+        if model is None or sum(answer.opened for answer in answers) != 1 or not session.first:
+            return
+        self.tally.count("compared", "unknowns opened first")
+        if list(model) != list(session.first)[:1]:
+            tell.differ("another unknown was opened first")
 
     def our_model(self, tell, problem, data, model):
         """That a model of the reference is one by the program."""

@@ -92,7 +92,7 @@ def deep_types(rng):
 def wide_scopes(rng):
     """Cases within cases that bind six variables each, up to a branch that sees about 64."""
     data = record(b"DT", [1, 6, 0, 0, 0, 0, 0, 0]) + record(b"DT", [2, 3, 0, 0, 0, 0])
-    depth, parameters = rng.choice([(9, 6), (10, 4), (10, 5), (10, 3), (10, 0), (11, 0)])
+    depth, parameters = rng.choice([(9, 6), (10, 4), (10, 4), (10, 4), (10, 5), (10, 3), (10, 0), (11, 0)])
     body = b"".join(bytes([4, 1, 2, 1, 0]) + TRUE * 6 for _ in range(depth))
     last = rng.choice([TRUE, bytes([0, rng.choice([62, 63, 64])]), bytes([4, 2, 2, 2, 1]) + TRUE + TRUE, b"", b"\x08"])
     function = record(b"FN", [parameters], [0] * parameters, [0], part(body + last))
@@ -114,7 +114,7 @@ def marks_alone(rng):
     return b"".join(rng.choice(pieces) for _ in range(rng.randrange(7)))
 
 
-FORMS = [many_records, many_parts, deep_types, wide_scopes, deep_terms, marks_alone]
+FORMS = [many_records, many_parts, deep_types, wide_scopes, wide_scopes, deep_terms, marks_alone]
 
 
 def damaged_problem(rng):

@@ -63,3 +63,6 @@ def many_rounds(rng):
 
 
 FORMS = {"unknowns": spent_unknowns, "chooser": spent_chooser, "steps": spent_steps, "rounds": many_rounds}
+
+# What of the answers no way of choosing changes.
+BOUND = {"unknowns": "words", "chooser": "lines"}

@@ -45,7 +45,7 @@ def list_lines(data):
 
 
 def seek(problem, deepest, rounds, steps):
-    """The answers of searches to rising depths with all goals in force, and the model if there is one."""
+    """The answers of searches to rising depths with all goals in force, and the session after them."""
     session = Session(problem)
     for goal in range(len(problem.goals)):
         session.put(goal)
@@ -54,14 +54,15 @@ def seek(problem, deepest, rounds, steps):
         answers.append(session.search(depth, rounds, steps))
         if answers[-1].word != "NONE":
             break
-    return answers, session.model
+    return answers, session
 
 
 def seek_lines(problem, options):
     number = Session(problem).search_refusal(options.depth, options.rounds, options.steps)
     if number:
         sys.exit(number)
-    answers, model = seek(problem, options.depth, options.rounds, options.steps)
+    answers, session = seek(problem, options.depth, options.rounds, options.steps)
+    model = session.model
     lines = [answer.line() for answer in answers]
     if model is None:
         return lines
