@@ -137,4 +137,5 @@ def main():
     growth("digits-most", "--rounds", (500, 1000, 2000, 4000, 65535))
 
 
-main()
+if __name__ == "__main__":
+    main()
