@@ -109,7 +109,7 @@ def beside(name, deepest):
         target.write(problem(list(source.read())))
     for solver, options in CVC5_OPTIONS.items():
         run = runs([CVC5, *options, "--produce-models", "--dag-thresh=0", path(name, "smt2")], REPEATS, SECONDS)
-        answer = run.out.split("\n")[0]
+        answer = run.out.split("\n")[0] or "no answer"
         found = values(run.out[len("sat"):]) if answer == "sat" else []
         told(name, solver, run, "; ".join([answer] + sorted({agreement(name, s, answer, found) for s in searched})))
 
