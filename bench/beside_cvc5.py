@@ -16,6 +16,7 @@ from smt import problem
 
 PROBLEMS, SEEK, REPLAY = sys.argv[1:4]
 REPEATS, SECONDS = int(os.environ.get("REPEATS", 3)), int(os.environ.get("SECONDS_EACH", 60))
+MOST_ROUNDS = 65535
 CVC5 = shutil.which("cvc5")
 CVC5_OPTIONS = {"cvc5": ["--fmf-fun"], "cvc5 b": ["--fmf-fun", "--fmf-bound"]}
 SEARCHES = ([(f"palindrome-{length}-{total}", 8) for length in (2, 4, 6) for total in (2, 3, 8, 12)]
@@ -28,7 +29,7 @@ def path(name, kind="bin"):
 
 
 def seek(chooser, name, *options):
-    return runs([SEEK, f"--{chooser}", "--rounds", "65535", "--steps", "4096", *map(str, options), path(name)], REPEATS, SECONDS)
+    return runs([SEEK, f"--{chooser}", "--steps", "4096", *map(str, options), path(name)], REPEATS, SECONDS)
 
 
 def told(name, solver, run, says):
@@ -99,7 +100,7 @@ def agreement(name, searched, answer, found):
 def beside(name, deepest):
     searched = set()
     for chooser in ("plain", "learning"):
-        run = seek(chooser, name, "--depth", deepest)
+        run = seek(chooser, name, "--depth", deepest, "--rounds", MOST_ROUNDS)
         told(name, chooser, run, " ".join(map(str, last_answer(run))))
         searched |= set() if run.ended else {last_answer(run)}
     if not CVC5:
@@ -108,33 +109,34 @@ def beside(name, deepest):
         target.write(problem(list(source.read())))
     for solver, options in CVC5_OPTIONS.items():
         run = runs([CVC5, *options, "--produce-models", "--dag-thresh=0", path(name, "smt2")], REPEATS, SECONDS)
-        answer = run.out.split("\n")[0]
+        answer = run.out.split("\n")[0] or "no answer"
         found = values(run.out[len("sat"):]) if answer == "sat" else []
         told(name, solver, run, "; ".join([answer] + sorted({agreement(name, s, answer, found) for s in searched})))
 
 
-def growth(name, option, limits):
-    """Searches to one limit after the other, and what a round more takes between each and the next."""
+def growth(name, deepest, limits):
+    """Searches with one limit of rounds after the other, and tells what a round more takes between each and the next."""
     for chooser in ("plain", "learning"):
         before = None
         for limit in limits:
-            run = seek(chooser, name, *(["--depth", "1"] if option == "--rounds" else []), option, limit)
-            rounds = told(name, chooser, run, f"{option} {limit}: {' '.join(map(str, last_answer(run)))}")
+            run = seek(chooser, name, "--depth", deepest, "--rounds", limit)
+            rounds = told(name, chooser, run, " ".join(map(str, last_answer(run))))
             if run.ended:
                 break
             if before and rounds > before[0]:
-                print(f"{'':17} {'':8} {1000 * (run.user - before[1]) / (rounds - before[0]):.3f} ms for each round from {before[0]} to {rounds}")
+                print(f"{'':26} {1000 * (run.user - before[1]) / (rounds - before[0]):.3f} ms for each round from {before[0]} to {rounds}")
             before = rounds, run.user
 
 
 def main():
     for name, deepest in SEARCHES:
         beside(name, deepest)
-    # The sixteen naturals fill the table of 512 unknowns by depth 32. The digits need one depth alone.
-    growth("unknowns", "--depth", (8, 16, 24, 32, 64))
-    growth("digits-2", "--rounds", (65535,))
-    growth("digits-3", "--rounds", (65535,))
-    growth("digits-most", "--rounds", (500, 1000, 2000, 4000, 65535))
+    # Sixteen naturals above 40 fill the table of 512 unknowns at depth 42. The digits need one depth alone.
+    growth("unknowns", 64, (100, 250, 500, MOST_ROUNDS))
+    growth("digits-2", 1, (MOST_ROUNDS,))
+    growth("digits-3", 1, (500, 1000, 2000, MOST_ROUNDS))
+    growth("digits-most", 1, (500, 1000, 2000, 4000, MOST_ROUNDS))
 
 
-main()
+if __name__ == "__main__":
+    main()

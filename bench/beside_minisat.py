@@ -62,4 +62,5 @@ def main():
         beside(family, "plain", [bench, "learning"], [bench, "plain"], wanted)
 
 
-main()
+if __name__ == "__main__":
+    main()
