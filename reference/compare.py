@@ -59,6 +59,13 @@ def examples(comparing, folder):
             comparing.replay(f"{name}-{model}", data, read(folder, model))
 
 
+def longest(comparing):
+    """Problems about as long as one may be: a goal that is negated so often."""
+    for length in (16383, 16384, 16385):
+        term = [6] * (length - 9) + [2, 0, 1]
+        comparing.check(f"longest-{length}", bytes([0x47, 0x4C, len(term) >> 8, len(term) & 255] + term + [0x45, 0x4E]))
+
+
 def read(folder, name):
     with open(os.path.join(folder, name), "rb") as file:
         return file.read()
@@ -130,6 +137,7 @@ def main():
     with tempfile.TemporaryDirectory() as work:
         comparing = Comparing(Programs(options.programs, work), tally)
         examples(comparing, os.path.join(here, "..", "examples"))
+        longest(comparing)
         for seed in range(options.seed, options.seed + options.count):
             one(comparing, seed)
             if options.first and tally.differences:
