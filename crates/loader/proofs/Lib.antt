@@ -1,0 +1,4 @@
+pub mod Forcing
+pub mod Modelling
+pub mod PastDepths
+pub mod Verdicts

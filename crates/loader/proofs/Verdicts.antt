@@ -1,0 +1,71 @@
+-- What a call that begins with a check tells of the bytes. Assumes nothing.
+use Rattle.std.proofs.Common.{◌≡◌, ℕ, ◌*◌, ◌≤◌, Bool, true, false, cond, leb, List, length, is_ok, Ok, Err, Result, refl, sym, ap, ◌∙◌, subst, arith}
+use Rattle.std.proofs.lemmas.Bool.{true≢false, false≢true}
+use Rattle.syntax.specs.declared.faults.Fault.{Fault}
+use Rattle.syntax.specs.Problems.{Problem as Meaning}
+use Rattle.verdict.specs.Verdict.{verdict, problem_in, decoded, checked}
+use Rattle.problem.specs.Meant.{meant}
+use Rattle.problem.specs.Taken.{Taken}
+use Rattle.problem.specs.declared.problem.Problem.{Problem}
+use Rattle.sessions.specs.declared.faults.SessionFault.{SessionFault}
+use Rattle.loader.specs.declared.faults.LoadFault.{LoadFault}
+use Rattle.loader.specs.declared.faults.LoadFault.TheVariants.{BadProblem, NotSearched, NotReplayed, NotTold, NoAnswer, NoMemory}
+use Rattle.loader.specs.Requests.{as_searched, then_admitted}
+use Rattle.loader.specs.Loading.{LoadFailed, Loaded}
+use Rattle.loader.specs.Replaying.{JudgeFailed}
+use Rattle.loader.specs.Texts.{ShowFailed}
+
+pub refused_by : (v : Result Meaning Fault) (f : Fault) → Err f ≡ checked v → v ≡ Err f
+refused_by (Ok p) f e = absurd (false≢true (ap is_ok e))
+refused_by (Err g) f e = sym_of e
+  where
+    fault_in : Result (Unit {0}) Fault → Fault
+    fault_in (Ok u) = f
+    fault_in (Err h) = h
+
+    sym_of : Err f ≡ Err g → Err g ≡ Err f
+    sym_of e = ap Err (sym (ap fault_in e))
+
+pub accepted_by : (v : Result Meaning Fault) → Ok tt ≡ checked v → is_ok v ≡ true
+accepted_by (Ok p) e = refl
+accepted_by (Err g) e = absurd (true≢false (ap is_ok e))
+
+pub decoded_so : (v : Result Meaning Fault) → is_ok v ≡ true → v ≡ Ok (problem_in v)
+decoded_so (Ok p) e = refl
+decoded_so (Err g) e = absurd (false≢true e)
+
+pub loaded_so : (bs : List ℕ) (p : Problem) → is_ok (verdict bs) ≡ true → Taken bs p → verdict bs ≡ Ok (meant p)
+loaded_so bs p ok t = decoded_so (verdict bs) ok ∙ ap Ok (sym t.means)
+
+pub ok_of : (bs : List ℕ) (p : Problem) → verdict bs ≡ Ok (meant p) → is_ok (verdict bs) ≡ true
+ok_of bs p e = ap is_ok e
+
+pub meant_of : (bs : List ℕ) (p : Problem) → verdict bs ≡ Ok (meant p) → meant p ≡ decoded bs
+meant_of bs p e = sym (ap problem_in e)
+
+-- bytes that are refused, before the request is looked at, and after
+pub admitted_bytes : (v : Result Meaning Fault) (f : Fault) (r : Result (Unit {0}) SessionFault) → Err f ≡ checked v
+    → Err (BadProblem f) ≡ then_admitted v r
+admitted_bytes v f r e = sym (ap (λ w. then_admitted w r) (refused_by v f e))
+
+pub admitted_request : (v : Result Meaning Fault) (r r' : Result (Unit {0}) SessionFault) → Ok tt ≡ checked v → r ≡ r'
+    → as_searched r ≡ then_admitted v r'
+admitted_request (Ok p) r r' e same = ap as_searched same
+admitted_request (Err g) r r' e same = absurd (true≢false (ap is_ok e))
+
+module _ (bs : List ℕ) where
+  pub show_failed : (model before after : List ℕ) (f : LoadFault) → LoadFailed bs f → after ≡ before → ShowFailed bs model before after f
+  show_failed model before after (BadProblem f) h same = (h, same)
+  show_failed model before after (NotSearched f) h same = absurd h
+  show_failed model before after (NotReplayed f) h same = absurd h
+  show_failed model before after (NotTold f) h same = absurd h
+  show_failed model before after NoAnswer h same = absurd h
+  show_failed model before after NoMemory h same = (h, same)
+
+  pub judge_failed : (model : List ℕ) (steps : ℕ) (answer : List ℕ) (f : LoadFault) → LoadFailed bs f → JudgeFailed bs model steps answer f
+  judge_failed model steps answer (BadProblem f) h = h
+  judge_failed model steps answer (NotSearched f) h = absurd h
+  judge_failed model steps answer (NotReplayed f) h = absurd h
+  judge_failed model steps answer (NotTold f) h = absurd h
+  judge_failed model steps answer NoAnswer h = absurd h
+  judge_failed model steps answer NoMemory h = h

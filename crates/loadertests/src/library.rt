@@ -1,0 +1,110 @@
+// The library's own answers, by its calls on a session.
+
+use answers::answer::{Answer, Outcome};
+use chooser::Chooser;
+use held::places::Place;
+use judge::left::STEP_PLACES;
+use problem::problem::Problem;
+use rounds::search::{Lent, Limits};
+use sessions::session::Session;
+use std::alloc::Global;
+use std::ops::Range;
+
+pub const ROUNDS: usize = 1_000;
+
+pub const STEPS: usize = 512;
+
+const MOST_MODEL: usize = 1_584;
+
+// The answers at the depths from 1 on, up to the first other than NONE, and the bytes of a model.
+#[derive(Drop)]
+pub struct Found {
+    pub answers: Vec<Answer>,
+    pub model: Vec<u8>,
+}
+
+#[derive(Drop)]
+struct Library<'a> {
+    heap: Global,
+    problem: &'a Problem,
+    last: usize,
+}
+
+impl Library<'_> {
+    fn under<C: Chooser>(
+        &self,
+        session: &mut Session,
+        chooser: &mut C,
+        mut goals: Range<u8>,
+        found: &mut Found,
+    ) -> anyhow::Result<()> {
+        let Some(goal) = goals.next() else {
+            return self.depths(session, chooser, found);
+        };
+        match session.put(goal) {
+            Ok(slip) => {
+                let searched = self.under(session, chooser, goals, found);
+                session.give_back(slip)?;
+                searched
+            }
+            Err((fault, _blank)) => Err(fault.into()),
+        }
+    }
+
+    fn depths<C: Chooser>(
+        &self,
+        session: &mut Session,
+        chooser: &mut C,
+        found: &mut Found,
+    ) -> anyhow::Result<()> {
+        let most = usize::from(C::MAX_VARIABLES);
+        let mut way = vec![in self.heap; 0u8; most]?;
+        let mut literals = vec![in self.heap; 0u16; most]?;
+        let mut places = vec![in self.heap; Place::BLANK; STEP_PLACES * STEPS]?;
+        let mut lent = Lent {
+            places: &mut places,
+            literals: &mut literals,
+        };
+        for depth in 1..=self.last {
+            let limits = Limits {
+                depth,
+                rounds: ROUNDS,
+                steps: STEPS,
+            };
+            let answer = session.search(self.problem, chooser, limits, &mut way, &mut lent)?;
+            found.answers.push(answer)?;
+            if answer.outcome != Outcome::None {
+                break;
+            }
+        }
+        let length = session.model(self.problem, &mut found.model).unwrap_or(0);
+        found.model.truncate(length);
+        Ok(())
+    }
+}
+
+pub fn search<C: Chooser>(
+    heap: Global,
+    problem: &Problem,
+    chooser: &mut C,
+    last: usize,
+) -> anyhow::Result<Found> {
+    let mut found = Found {
+        answers: Vec::new(heap),
+        model: vec![in heap; 0u8; MOST_MODEL]?,
+    };
+    let library = Library {
+        heap,
+        problem,
+        last,
+    };
+    let mut session = Session::new();
+    session.begin(problem, chooser)?;
+    library.under(
+        &mut session,
+        chooser,
+        0..problem.goals().min(32) as u8,
+        &mut found,
+    )?;
+    Ok(found)
+}
