@@ -1,4 +1,4 @@
+pub mod Admitting
 pub mod Forcing
 pub mod Modelling
 pub mod PastDepths
-pub mod Verdicts

@@ -19,9 +19,9 @@ use Rattle.sessions.specs.declared.faults.SessionFault.{SessionFault}
 use Rattle.sessions.specs.Faults.{told, refusal_of}
 use Rattle.sessions.specs.Shown.{Shows}
 use Rattle.sessions.specs.Searching.{Tells, FoundBy, Searched}
-use Rattle.loader.specs.declared.answering.DepthAnswer.{DepthAnswer}
+use Rattle.boundary.specs.declared.answering.DepthAnswer.{DepthAnswer}
 use Rattle.loader.specs.declared.request.Request.{Request}
-use Rattle.loader.specs.Answering.{as_written}
+use Rattle.boundary.specs.Answering.{as_written}
 use Rattle.loader.specs.Sessions.{all_goals, forced, Put}
 use Rattle.loader.specs.Depths.{goes_on, is_none_within, Deepens, through, closed, none_here, Believed, AllBelieved, crossing, LeftBy, Deepened}
 

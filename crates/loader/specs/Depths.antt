@@ -13,9 +13,9 @@ use Rattle.answers.specs.declared.answer.Outcome.TheVariants.{Model, None, Never
 use Rattle.answers.specs.Told.{answer_of}
 use Rattle.sessions.specs.declared.session.Session.{Session}
 use Rattle.sessions.specs.Shown.{Shows}
-use Rattle.loader.specs.declared.answering.DepthAnswer.{DepthAnswer}
+use Rattle.boundary.specs.declared.answering.DepthAnswer.{DepthAnswer}
 use Rattle.loader.specs.declared.request.Request.{Request}
-use Rattle.loader.specs.Answering.{as_written}
+use Rattle.boundary.specs.Answering.{as_written}
 use Rattle.loader.specs.Sessions.{all_goals, forced}
 
 -- the next depth is searched after NONE alone

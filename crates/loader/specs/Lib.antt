@@ -1,10 +1,4 @@
-pub mod Faults
-pub mod Statuses
-pub mod Answering
 pub mod Requests
-pub mod Loading
-pub mod Replaying
-pub mod Texts
 pub mod Sessions
 pub mod Depths
 pub mod Searching

@@ -5,8 +5,8 @@ use Rattle.syntax.specs.declared.faults.Fault.{Fault}
 use Rattle.verdict.specs.Verdict.{verdict}
 use Rattle.sessions.specs.declared.faults.SessionFault.{SessionFault}
 use Rattle.sessions.specs.declared.faults.SessionFault.TheVariants.{BadDepth, BadLimits, SmallBuffers, SmallOutput}
-use Rattle.loader.specs.declared.faults.LoadFault.{LoadFault}
-use Rattle.loader.specs.declared.faults.LoadFault.TheVariants.{BadProblem, NotSearched}
+use Rattle.boundary.specs.declared.faults.LoadFault.{LoadFault}
+use Rattle.boundary.specs.declared.faults.LoadFault.TheVariants.{BadProblem, NotSearched}
 use Rattle.loader.specs.declared.request.Request.{Request}
 use Rattle.loader.specs.declared.request.Room.{Room}
 

@@ -14,9 +14,9 @@ use Rattle.histories.specs.Calls.{Writes}
 use Rattle.models.specs.Models.{written_model}
 use Rattle.models.specs.Replays.{ReplaysTrue}
 use Rattle.verdict.specs.Verdict.{decoded}
-use Rattle.loader.specs.declared.answering.DepthAnswer.{DepthAnswer}
-use Rattle.loader.specs.declared.faults.LoadFault.{LoadFault}
-use Rattle.loader.specs.declared.faults.LoadFault.TheVariants.{BadProblem, NotSearched, NotReplayed, NotTold, NoAnswer, NoMemory}
+use Rattle.boundary.specs.declared.answering.DepthAnswer.{DepthAnswer}
+use Rattle.boundary.specs.declared.faults.LoadFault.{LoadFault}
+use Rattle.boundary.specs.declared.faults.LoadFault.TheVariants.{BadProblem, NotSearched, NotReplayed, NotTold, NoAnswer, NoMemory}
 use Rattle.loader.specs.declared.request.Request.{Request}
 use Rattle.loader.specs.declared.request.Room.{Room}
 use Rattle.loader.specs.declared.searching.Found.{Found}

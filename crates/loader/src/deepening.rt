@@ -5,7 +5,7 @@ ghost use Rattle.loader.specs.Requests.{Admits};
 ghost use Rattle.loader.specs.Sessions.{Put};
 ghost use Rattle.loader.specs.Depths.{goes_on, Deepened};
 
-use crate::answering::DepthAnswer;
+use boundary::answering::DepthAnswer;
 use crate::under_goals::Seeker;
 use answers::answer::Outcome;
 use chooser::Chooser;

@@ -2,7 +2,7 @@
 ghost use Rattle.std.specs.Prelude.{◌≡◌, ◌≤◌, length, OnOk};
 ghost use Rattle.loader.specs.Requests.{admitted, request_admitted};
 
-use crate::faults::LoadFault;
+use boundary::faults::LoadFault;
 use sessions::faults::SessionFault;
 use verdict::check::check;
 

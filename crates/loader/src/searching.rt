@@ -6,8 +6,8 @@ ghost use Rattle.loader.specs.Requests.{Admits};
 ghost use Rattle.loader.specs.Searching.{SoughtBy, Answered};
 ghost use Rattle.rows.specs.declared.store.TheConstants.{MOST_VARIABLES};
 
-use crate::answering::DepthAnswer;
-use crate::faults::LoadFault;
+use boundary::answering::DepthAnswer;
+use boundary::faults::LoadFault;
 use crate::request::{Request, Room, admit};
 use crate::under_goals::Seeker;
 use chooser::Chooser;

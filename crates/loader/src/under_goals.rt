@@ -5,7 +5,7 @@ ghost use Rattle.loader.specs.Requests.{Admits};
 ghost use Rattle.loader.specs.Sessions.{Put};
 ghost use Rattle.loader.specs.Searching.{Sought};
 
-use crate::answering::DepthAnswer;
+use boundary::answering::DepthAnswer;
 use crate::request::Request;
 use crate::searching::Found;
 use chooser::Chooser;

@@ -5,18 +5,18 @@ ghost use Rattle.std.specs.Prelude.{◌≡◌, ℕ, length, Result};
 ghost use Rattle.verdict.specs.Verdict.{verdict, checked};
 ghost use Rattle.rows.specs.declared.store.TheConstants.{MOST_VARIABLES};
 ghost use Rattle.loader.specs.declared.searching.Found.{Found as Written};
-ghost use Rattle.loader.specs.declared.faults.LoadFault.{LoadFault as Refused};
-ghost use Rattle.loader.specs.Statuses.{checked_status, Reports};
+ghost use Rattle.boundary.specs.declared.faults.LoadFault.{LoadFault as Refused};
+ghost use Rattle.boundary.specs.Statuses.{checked_status, Reports};
 ghost use Rattle.loader.specs.Searching.{Answered};
-ghost use Rattle.loader.specs.Replaying.{Judged};
-ghost use Rattle.loader.specs.Texts.{Lined, Showed};
+ghost use Rattle.boundary.specs.Replaying.{Judged};
+ghost use Rattle.boundary.specs.Texts.{Lined, Showed};
 
-use loader::answering::DepthAnswer;
-use loader::replaying::replay_model;
+use boundary::answering::DepthAnswer;
+use boundary::replaying::replay_model;
 use loader::request::Request;
 use loader::searching::{Found, search_learning, search_plain};
-use loader::status::{Status, check_bytes, report};
-use loader::text::{line_of, show_model};
+use boundary::status::{Status, check_bytes, report};
+use boundary::text::{line_of, show_model};
 use std::alloc::Global;
 
 // Whether the bytes are a problem. Nothing is allocated.

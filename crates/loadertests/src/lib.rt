@@ -11,13 +11,13 @@ mod tests {
     use held::places::Place;
     use judge::left::STEP_PLACES;
     use learning::Learning;
-    use loader::answering::DepthAnswer;
-    use loader::faults::LoadFault;
-    use loader::replaying::replay_model;
+    use boundary::answering::DepthAnswer;
+    use boundary::faults::LoadFault;
+    use boundary::replaying::replay_model;
     use loader::request::{MOST_MODEL, Request};
     use loader::searching::{Found, search_learning, search_plain};
-    use loader::status::{Status, check_bytes, report};
-    use loader::text::{line_of, show_model};
+    use boundary::status::{Status, check_bytes, report};
+    use boundary::text::{line_of, show_model};
     use plain::Plain;
     use problem::take::take;
     use replay::replay::replay;

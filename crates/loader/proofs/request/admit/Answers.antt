@@ -3,7 +3,7 @@ use Rattle.std.proofs.Common.{Ok, Err, ap, ◌∙◌}
 use Rattle.std.proofs.lemmas.Result.{err_from_is_err_and}
 use Rattle.verdict.specs.Verdict.{verdict}
 use Rattle.loader.specs.Requests.{request_admitted}
-use Rattle.loader.proofs.Verdicts.{admitted_bytes, admitted_request}
+use Rattle.loader.proofs.Admitting.{admitted_bytes, admitted_request}
 use Rattle.loader.proofs.request.admit.Goals as goal
 
 pub returns-in_err-check : goal.returns-in_err-check

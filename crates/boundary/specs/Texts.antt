@@ -7,10 +7,10 @@ use Rattle.telling.specs.Lines.{line_text}
 use Rattle.telling.specs.Told.{Told}
 use Rattle.telling.specs.Shown.{Shown}
 use Rattle.telling.specs.declared.faults.TellFault.{TellFault}
-use Rattle.loader.specs.declared.answering.DepthAnswer.{DepthAnswer}
-use Rattle.loader.specs.declared.faults.LoadFault.{LoadFault}
-use Rattle.loader.specs.declared.faults.LoadFault.TheVariants.{BadProblem, NotSearched, NotReplayed, NotTold, NoAnswer, NoMemory}
-use Rattle.loader.specs.Answering.{as_written}
+use Rattle.boundary.specs.declared.answering.DepthAnswer.{DepthAnswer}
+use Rattle.boundary.specs.declared.faults.LoadFault.{LoadFault}
+use Rattle.boundary.specs.declared.faults.LoadFault.TheVariants.{BadProblem, NotSearched, NotReplayed, NotTold, NoAnswer, NoMemory}
+use Rattle.boundary.specs.Answering.{as_written}
 
 abbrev pub LineFailed : ℕ → DepthAnswer → List ℕ → List ℕ → LoadFault → Type 0
 LineFailed depth d before after (BadProblem f) = ⊥

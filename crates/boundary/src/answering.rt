@@ -1,6 +1,6 @@
 // The answer of a search, as it crosses to C.
 ghost use Rattle.std.specs.Prelude.{◌≡◌};
-ghost use Rattle.loader.specs.Answering.{outcome_number, goal_of, as_written, Reads};
+ghost use Rattle.boundary.specs.Answering.{outcome_number, goal_of, as_written, Reads};
 
 use crate::faults::LoadFault;
 use answers::answer::{Answer, Outcome};

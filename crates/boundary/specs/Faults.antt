@@ -12,8 +12,8 @@ use Rattle.replay.specs.declared.faults.ReplayFault.TheVariants.{Steps, Places, 
 use Rattle.telling.specs.Refusals.{number_of as number_of_text}
 use Rattle.telling.specs.declared.faults.TellFault.{TellFault}
 use Rattle.telling.specs.declared.faults.TellFault.TheVariants.{BadModel as NoModelToTell, SmallOutput as NoRoom}
-use Rattle.loader.specs.declared.faults.LoadFault.{LoadFault}
-use Rattle.loader.specs.declared.faults.LoadFault.TheVariants.{BadProblem, NotSearched, NotReplayed, NotTold, NoAnswer, NoMemory}
+use Rattle.boundary.specs.declared.faults.LoadFault.{LoadFault}
+use Rattle.boundary.specs.declared.faults.LoadFault.TheVariants.{BadProblem, NotSearched, NotReplayed, NotTold, NoAnswer, NoMemory}
 
 abbrev pub number_of : LoadFault → ℕ
 number_of (BadProblem f) = number_of_reason f.reason

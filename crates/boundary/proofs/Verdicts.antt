@@ -7,13 +7,11 @@ use Rattle.verdict.specs.Verdict.{verdict, problem_in, decoded, checked}
 use Rattle.problem.specs.Meant.{meant}
 use Rattle.problem.specs.Taken.{Taken}
 use Rattle.problem.specs.declared.problem.Problem.{Problem}
-use Rattle.sessions.specs.declared.faults.SessionFault.{SessionFault}
-use Rattle.loader.specs.declared.faults.LoadFault.{LoadFault}
-use Rattle.loader.specs.declared.faults.LoadFault.TheVariants.{BadProblem, NotSearched, NotReplayed, NotTold, NoAnswer, NoMemory}
-use Rattle.loader.specs.Requests.{as_searched, then_admitted}
-use Rattle.loader.specs.Loading.{LoadFailed, Loaded}
-use Rattle.loader.specs.Replaying.{JudgeFailed}
-use Rattle.loader.specs.Texts.{ShowFailed}
+use Rattle.boundary.specs.declared.faults.LoadFault.{LoadFault}
+use Rattle.boundary.specs.declared.faults.LoadFault.TheVariants.{BadProblem, NotSearched, NotReplayed, NotTold, NoAnswer, NoMemory}
+use Rattle.boundary.specs.Loading.{LoadFailed, Loaded}
+use Rattle.boundary.specs.Replaying.{JudgeFailed}
+use Rattle.boundary.specs.Texts.{ShowFailed}
 
 pub refused_by : (v : Result Meaning Fault) (f : Fault) → Err f ≡ checked v → v ≡ Err f
 refused_by (Ok p) f e = absurd (false≢true (ap is_ok e))
@@ -42,16 +40,6 @@ ok_of bs p e = ap is_ok e
 
 pub meant_of : (bs : List ℕ) (p : Problem) → verdict bs ≡ Ok (meant p) → meant p ≡ decoded bs
 meant_of bs p e = sym (ap problem_in e)
-
--- bytes that are refused, before the request is looked at, and after
-pub admitted_bytes : (v : Result Meaning Fault) (f : Fault) (r : Result (Unit {0}) SessionFault) → Err f ≡ checked v
-    → Err (BadProblem f) ≡ then_admitted v r
-admitted_bytes v f r e = sym (ap (λ w. then_admitted w r) (refused_by v f e))
-
-pub admitted_request : (v : Result Meaning Fault) (r r' : Result (Unit {0}) SessionFault) → Ok tt ≡ checked v → r ≡ r'
-    → as_searched r ≡ then_admitted v r'
-admitted_request (Ok p) r r' e same = ap as_searched same
-admitted_request (Err g) r r' e same = absurd (true≢false (ap is_ok e))
 
 module _ (bs : List ℕ) where
   pub show_failed : (model before after : List ℕ) (f : LoadFault) → LoadFailed bs f → after ≡ before → ShowFailed bs model before after f

@@ -4,8 +4,8 @@ use Rattle.verdict.specs.Verdict.{verdict}
 use Rattle.problem.specs.Meant.{meant}
 use Rattle.problem.specs.declared.problem.Problem.{Problem}
 use Rattle.sessions.specs.declared.faults.SessionFault.{SessionFault}
-use Rattle.loader.specs.declared.faults.LoadFault.{LoadFault}
-use Rattle.loader.specs.declared.faults.LoadFault.TheVariants.{BadProblem, NotSearched, NotReplayed, NotTold, NoAnswer, NoMemory}
+use Rattle.boundary.specs.declared.faults.LoadFault.{LoadFault}
+use Rattle.boundary.specs.declared.faults.LoadFault.TheVariants.{BadProblem, NotSearched, NotReplayed, NotTold, NoAnswer, NoMemory}
 
 -- only bytes that are a problem want memory
 abbrev pub LoadFailed : List ℕ → LoadFault → Type 0

@@ -1,10 +1,10 @@
 -- How a result crosses to C. Assumes nothing.
 use Rattle.std.specs.Prelude.{◌≡◌, Ok, Err, Result}
 use Rattle.syntax.specs.declared.faults.Fault.{Fault}
-use Rattle.loader.specs.declared.faults.LoadFault.{LoadFault}
-use Rattle.loader.specs.declared.faults.LoadFault.TheVariants.{BadProblem}
-use Rattle.loader.specs.declared.status.Status.{Status}
-use Rattle.loader.specs.Faults.{number_of, inside_of, place_of}
+use Rattle.boundary.specs.declared.faults.LoadFault.{LoadFault}
+use Rattle.boundary.specs.declared.faults.LoadFault.TheVariants.{BadProblem}
+use Rattle.boundary.specs.declared.status.Status.{Status}
+use Rattle.boundary.specs.Faults.{number_of, inside_of, place_of}
 
 abbrev pub status_of : LoadFault → Status
 status_of f = record { refusal = number_of f; inside = inside_of f; place = place_of f }

@@ -3,9 +3,9 @@ use Rattle.std.specs.Prelude.{◌≡◌, ℕ, Ok, Err, Result}
 use Rattle.answers.specs.declared.answer.Outcome.{Outcome}
 use Rattle.answers.specs.declared.answer.Outcome.TheVariants.{Model, None, Never, Foreign, SpentRounds, SpentSteps, SpentUnknowns, SpentChooser}
 use Rattle.answers.specs.declared.answer.Answer.{Answer}
-use Rattle.loader.specs.declared.answering.DepthAnswer.{DepthAnswer}
-use Rattle.loader.specs.declared.faults.LoadFault.{LoadFault}
-use Rattle.loader.specs.declared.faults.LoadFault.TheVariants.{NoAnswer}
+use Rattle.boundary.specs.declared.answering.DepthAnswer.{DepthAnswer}
+use Rattle.boundary.specs.declared.faults.LoadFault.{LoadFault}
+use Rattle.boundary.specs.declared.faults.LoadFault.TheVariants.{NoAnswer}
 
 -- the number of each outcome, case for case
 abbrev pub outcome_number : Outcome → ℕ

@@ -1,7 +1,7 @@
 // Why a loader's call is refused.
 ghost use Rattle.std.specs.Prelude.{◌≡◌};
-ghost use Rattle.loader.specs.declared.faults.LoadFault.TheVariants.{BadProblem, NotReplayed, NotTold, NoMemory};
-ghost use Rattle.loader.specs.Faults.{number_of, inside_of, place_of};
+ghost use Rattle.boundary.specs.declared.faults.LoadFault.TheVariants.{BadProblem, NotReplayed, NotTold, NoMemory};
+ghost use Rattle.boundary.specs.Faults.{number_of, inside_of, place_of};
 
 use chooser::MakeFault;
 use replay::faults::ReplayFault;

@@ -1,7 +1,7 @@
 // How a call ended, as it crosses to C.
 ghost use Rattle.std.specs.Prelude.{◌≡◌};
 ghost use Rattle.verdict.specs.Verdict.{verdict, checked};
-ghost use Rattle.loader.specs.Statuses.{status_of, checked_status, Reports};
+ghost use Rattle.boundary.specs.Statuses.{status_of, checked_status, Reports};
 
 use crate::faults::LoadFault;
 use verdict::check::check;

@@ -1,5 +1,5 @@
 // Bytes as a problem.
-ghost use Rattle.loader.specs.Loading.{Loaded};
+ghost use Rattle.boundary.specs.Loading.{Loaded};
 
 use crate::faults::LoadFault;
 use problem::problem::Problem;

@@ -1,5 +1,5 @@
 // Answers and models as text.
-ghost use Rattle.loader.specs.Texts.{Lined, Showed};
+ghost use Rattle.boundary.specs.Texts.{Lined, Showed};
 
 use crate::answering::DepthAnswer;
 use crate::faults::LoadFault;

@@ -2,9 +2,9 @@
 use Rattle.std.proofs.Common.{Err, sym, ap, ◌∙◌, subst}
 use Rattle.std.proofs.lemmas.Result.{err_from_is_err_and}
 use Rattle.verdict.specs.Verdict.{verdict}
-use Rattle.loader.specs.Loading.{Loaded}
-use Rattle.loader.proofs.Verdicts.{refused_by, accepted_by, loaded_so}
-use Rattle.loader.proofs.loading.load.Goals as goal
+use Rattle.boundary.specs.Loading.{Loaded}
+use Rattle.boundary.proofs.Verdicts.{refused_by, accepted_by, loaded_so}
+use Rattle.boundary.proofs.loading.load.Goals as goal
 
 pub returns-in_err-check : goal.returns-in_err-check
 returns-in_err-check c =

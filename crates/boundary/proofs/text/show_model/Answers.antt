@@ -3,10 +3,10 @@ use Rattle.std.proofs.Common.{Ok, Err, refl, sym, ap, ◌∙◌, subst}
 use Rattle.std.proofs.lemmas.Result.{err_from_is_err_and}
 use Rattle.verdict.specs.Verdict.{decoded}
 use Rattle.telling.specs.Shown.{Shown}
-use Rattle.loader.specs.declared.faults.LoadFault.TheVariants.{NotTold}
-use Rattle.loader.specs.Texts.{Showed}
-use Rattle.loader.proofs.Verdicts.{ok_of, meant_of, show_failed}
-use Rattle.loader.proofs.text.show_model.Goals as goal
+use Rattle.boundary.specs.declared.faults.LoadFault.TheVariants.{NotTold}
+use Rattle.boundary.specs.Texts.{Showed}
+use Rattle.boundary.proofs.Verdicts.{ok_of, meant_of, show_failed}
+use Rattle.boundary.proofs.text.show_model.Goals as goal
 
 pub returns-in_err-load : goal.returns-in_err-load
 returns-in_err-load c =

@@ -5,8 +5,8 @@ use Rattle.verdict.specs.Verdict.{verdict, decoded}
 use Rattle.model.specs.Places.{decided_by}
 use Rattle.replay.specs.Replays.{answer_of, accepted}
 use Rattle.replay.specs.declared.faults.ReplayFault.{ReplayFault}
-use Rattle.loader.specs.declared.faults.LoadFault.{LoadFault}
-use Rattle.loader.specs.declared.faults.LoadFault.TheVariants.{BadProblem, NotSearched, NotReplayed, NotTold, NoAnswer, NoMemory}
+use Rattle.boundary.specs.declared.faults.LoadFault.{LoadFault}
+use Rattle.boundary.specs.declared.faults.LoadFault.TheVariants.{BadProblem, NotSearched, NotReplayed, NotTold, NoAnswer, NoMemory}
 
 -- how many bytes of the answer are for goals
 abbrev pub goal_bytes : Problem → List ℕ → ℕ

@@ -1,6 +1,6 @@
 // Replaying a written model.
 ghost use Rattle.std.specs.Prelude.{◌≡◌, OnErr};
-ghost use Rattle.loader.specs.Replaying.{Judged};
+ghost use Rattle.boundary.specs.Replaying.{Judged};
 
 use crate::faults::LoadFault;
 use crate::loading::load;
