@@ -1,6 +1,5 @@
 -- The numbers of a fault: its own, that of the fault that is inside, and the place of the byte at fault. Assumes nothing.
 use Rattle.std.specs.Prelude.{ℕ}
-use Rattle.syntax.specs.declared.faults.Fault.{Fault}
 use Rattle.syntax.specs.Faults.{number_of as number_of_reason}
 use Rattle.chooser.specs.Faults.{fault_number}
 use Rattle.sessions.specs.Faults.{number_of as number_of_refused}
