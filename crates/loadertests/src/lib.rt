@@ -14,10 +14,11 @@ mod tests {
     use boundary::answering::DepthAnswer;
     use boundary::faults::LoadFault;
     use boundary::replaying::replay_model;
-    use loader::request::{MOST_MODEL, Request};
+    use loader::request::Request;
     use loader::searching::{Found, search_learning, search_plain};
     use boundary::status::{Status, check_bytes, report};
     use boundary::text::{line_of, show_model};
+    use models::writing::MOST_BYTES;
     use plain::Plain;
     use problem::take::take;
     use replay::replay::replay;
@@ -80,7 +81,7 @@ mod tests {
                 way: vec![in heap; 0u8; usize::from(variables)]?,
                 literals: vec![in heap; 0u16; usize::from(variables)]?,
                 answers: vec![in heap; BLANK; 8]?,
-                model: vec![in heap; 0u8; MOST_MODEL]?,
+                model: vec![in heap; 0u8; MOST_BYTES]?,
             })
         }
 
@@ -306,7 +307,7 @@ mod tests {
             let told = memory.learning(heap, &NATURALS, &request);
             assert_eq!(rt; report(told, &mut found), refusal(number));
         }
-        memory.model.truncate(MOST_MODEL - 1);
+        memory.model.truncate(MOST_BYTES - 1);
         let told = memory.plain(heap, &NATURALS, &REQUEST);
         assert_eq!(rt; report(told, &mut found), refusal(46));
         memory.literals.truncate(4_095);

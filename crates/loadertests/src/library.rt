@@ -4,6 +4,7 @@ use answers::answer::{Answer, Outcome};
 use chooser::Chooser;
 use held::places::Place;
 use judge::left::STEP_PLACES;
+use models::writing::MOST_BYTES;
 use problem::problem::Problem;
 use rounds::search::{Lent, Limits};
 use sessions::session::Session;
@@ -13,8 +14,6 @@ use std::ops::Range;
 pub const ROUNDS: usize = 1_000;
 
 pub const STEPS: usize = 512;
-
-const MOST_MODEL: usize = 1_584;
 
 // The answers at the depths from 1 on, up to the first other than NONE, and the bytes of a model.
 #[derive(Drop)]
@@ -91,7 +90,7 @@ pub fn search<C: Chooser>(
 ) -> anyhow::Result<Found> {
     let mut found = Found {
         answers: Vec::new(heap),
-        model: vec![in heap; 0u8; MOST_MODEL]?,
+        model: vec![in heap; 0u8; MOST_BYTES]?,
     };
     let library = Library {
         heap,
