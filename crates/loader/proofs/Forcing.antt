@@ -34,7 +34,7 @@ one_more : (g h : ℕ) → forcing (below g) g true h ≡ below (suc g) h
 one_more g h = one_more_by g h (eqb h g) refl
 
 module _ (p : Problem) (M : Meaning) (g : ℕ) (inside : g < length p.goals) where
-  pub put_accepted : put_refusal (begun (forced p M g)) g ≡ none
+  put_accepted : put_refusal (begun (forced p M g)) g ≡ none
   put_accepted =
       cond-true (ltb g (length p.goals)) _ _ (lt-ltb g (length p.goals) inside) ∙ cond-false (ltb g g) _ _ (le-ltb g g (omega arith))
 
