@@ -8,7 +8,6 @@ use Rattle.sessions.specs.declared.faults.SessionFault.{SessionFault}
 use Rattle.sessions.specs.declared.faults.SessionFault.TheVariants.{BadDepth, BadLimits, SmallBuffers, SmallOutput}
 use Rattle.boundary.specs.declared.faults.LoadFault.{LoadFault}
 use Rattle.boundary.specs.declared.faults.LoadFault.TheVariants.{BadProblem}
-use Rattle.boundary.proofs.Verdicts.{refused_by}
 use Rattle.loader.specs.declared.request.Request.{Request}
 use Rattle.loader.specs.declared.request.Room.{Room}
 use Rattle.loader.specs.Requests.{are_depths, are_limits, depths, request_admitted, as_searched, then_admitted, admitted, Admits}
@@ -16,7 +15,8 @@ use Rattle.loader.specs.Requests.{are_depths, are_limits, depths, request_admitt
 -- bytes that are refused, before the request is looked at, and after
 pub admitted_bytes : (v : Result Meaning Fault) (f : Fault) (r : Result (Unit {0}) SessionFault) → Err f ≡ checked v
     → Err (BadProblem f) ≡ then_admitted v r
-admitted_bytes v f r e = sym (ap (λ w. then_admitted w r) (refused_by v f e))
+admitted_bytes (Ok p) f r e = absurd (false≢true (ap is_ok e))
+admitted_bytes (Err g) f r e = cc
 
 pub admitted_request : (v : Result Meaning Fault) (r r' : Result (Unit {0}) SessionFault) → Ok tt ≡ checked v → r ≡ r'
     → as_searched r ≡ then_admitted v r'

@@ -1,5 +1,5 @@
 -- Bringing one goal after the other into force. Assumes nothing.
-use Rattle.std.proofs.Common.{◌≡◌, ℕ, suc, ◌<◌, ◌≤◌, Bool, true, false, cond, ◌⊎◌, inl, inr, List, [], ◌∷◌, length, eqb, ltb, Ok, Err, Result, refl, sym, ap, ◌∙◌, subst, arith}
+use Rattle.std.proofs.Common.{◌≡◌, ℕ, suc, ◌+◌, ◌<◌, ◌≤◌, Bool, true, false, cond, ◌⊎◌, inl, inr, List, [], ◌∷◌, length, eqb, ltb, Ok, Err, Result, refl, sym, ap, ◌∙◌, subst, arith, add-one}
 use Rattle.std.proofs.Math.Option.{Option, none, some, none-ne-some}
 use Rattle.std.proofs.Math.Path.{fun_ext}
 use Rattle.std.proofs.lemmas.Bool.{true≢false, eqb-true, eqb-false, ltb-true, ltb-false, lt-ltb, le-ltb, cond-true, cond-false}
@@ -34,7 +34,7 @@ one_more : (g h : ℕ) → forcing (below g) g true h ≡ below (suc g) h
 one_more g h = one_more_by g h (eqb h g) refl
 
 module _ (p : Problem) (M : Meaning) (g : ℕ) (inside : g < length p.goals) where
-  pub put_accepted : put_refusal (begun (forced p M g)) g ≡ none
+  put_accepted : put_refusal (begun (forced p M g)) g ≡ none
   put_accepted =
       cond-true (ltb g (length p.goals)) _ _ (lt-ltb g (length p.goals) inside) ∙ cond-false (ltb g g) _ _ (le-ltb g g (omega arith))
 
@@ -43,13 +43,14 @@ module _ (p : Problem) (M : Meaning) (g : ℕ) (inside : g < length p.goals) whe
       ap (λ r. refused_state r (begun (forced p M g)) (put_in (begun (forced p M g)) g)) put_accepted
       ∙ ap (λ f. begun (with_force (start p M) f)) (fun_ext (one_more g))
 
-  pub put_one : {s s' : Session} → Put p M g s → ((S : State) → Shows s S → Shows s' (after_put S g)) → Put p M (suc g) s'
+  pub put_one : {s s' : Session} → Put p M g s → ((S : State) → Shows s S → Shows s' (after_put S g)) → Put p M (g + 1) s'
   put_one {s' = s'} h shows =
-      record {
+      rw add-one
+      (record {
         shows = subst (Shows s') put_leaves (shows (begun (forced p M g)) h.shows);
         calls = put g (put_refusal (begun (forced p M g)) g) ∷ h.calls;
         history = subst (λ S. History (put g (put_refusal (begun (forced p M g)) g) ∷ h.calls) S M) put_leaves (put_called g h.history);
-      }
+      })
 
 -- none is in force at first
 begins_unforced : (p : Problem) (M : Meaning) → begun (start p M) ≡ begun (forced p M 0)
@@ -69,7 +70,7 @@ module _ {p : Problem} {M M' : Meaning} {most entries : ℕ} (fresh : Fresh M mo
         ready = record {
           shows = subst (Shows s') (begins_unforced p M') h;
           calls = began p none ∷ [];
-          history = subst (λ S. History (began p none ∷ []) S M') (begins_unforced p M') (begin_accepted new (begins lawful none_yet all room switched));
+          history = subst (λ S. History (began p none ∷ []) S M') (begins_unforced p M') (begin_accepted {M₀ = M} new (begins lawful none_yet all room switched));
         };
       }
 

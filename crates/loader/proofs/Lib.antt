@@ -1,4 +1,5 @@
 pub mod Admitting
+pub mod Answering
 pub mod Forcing
 pub mod Modelling
 pub mod PastDepths

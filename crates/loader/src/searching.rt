@@ -54,9 +54,9 @@ fn search_with<C: Chooser>(
         literals,
     };
     let mut session = Session::new();
-    if session.begin(problem, chooser).is_err() {
+    let Ok(()) = session.begin(problem, chooser) else {
         unreachable!();
-    }
+    };
     let seeker = Seeker {
         problem,
         request: *request,
