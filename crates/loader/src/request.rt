@@ -1,6 +1,6 @@
 // What a loader wants searched, and the tests of it.
-ghost use Rattle.std.specs.Prelude.{◌≡◌, ◌≤◌, length, OnOk};
-ghost use Rattle.loader.specs.Requests.{admitted, request_admitted};
+ghost use Rattle.std.specs.Prelude.{◌≡◌, OnOk};
+ghost use Rattle.loader.specs.Requests.{Passed, admitted, request_admitted};
 
 use boundary::faults::LoadFault;
 use models::writing::MOST_BYTES;
@@ -31,7 +31,8 @@ pub struct Room {
 
 // Whether a chooser with so many variables at most is given what it needs to search.
 fn check_request(request: &Request, most: usize, room: Room) -> Result<(), SessionFault>
-    ensures { result ≡ request_admitted request.now most room }
+    ensures exact { result ≡ request_admitted request.now most room }
+    ensures leaves { OnOk result (Passed request.now most room) }
 {
     let Request {
         first,
@@ -62,7 +63,8 @@ pub(crate) fn admit(
     most: usize,
     room: Room,
 ) -> Result<(), LoadFault>
-    ensures { result ≡ admitted bytes.now request.now most room }
+    ensures exact { result ≡ admitted bytes.now request.now most room }
+    ensures leaves { OnOk result (Passed request.now most room) }
 {
     check(bytes)?;
     match check_request(request, most, room) {
