@@ -1,8 +1,7 @@
 -- The tests of a request, in their order. Assumes nothing.
 use Rattle.std.specs.Prelude.{◌≡◌, ℕ, ◌+◌, ◌-◌, ◌≤◌, Bool, cond, ◌&&◌, List, nat_le, Ok, Err, Result}
-use Rattle.syntax.specs.Problems.{Problem}
 use Rattle.syntax.specs.declared.faults.Fault.{Fault}
-use Rattle.verdict.specs.Verdict.{verdict}
+use Rattle.verdict.specs.Verdict.{verdict, checked}
 use Rattle.sessions.specs.declared.faults.SessionFault.{SessionFault}
 use Rattle.sessions.specs.declared.faults.SessionFault.TheVariants.{BadDepth, BadLimits, SmallBuffers, SmallOutput}
 use Rattle.boundary.specs.declared.faults.LoadFault.{LoadFault}
@@ -32,13 +31,13 @@ abbrev pub as_searched : Result (Unit {0}) SessionFault → Result (Unit {0}) Lo
 as_searched (Ok u) = Ok u
 as_searched (Err f) = Err (NotSearched f)
 
-abbrev pub then_admitted : Result Problem Fault → Result (Unit {0}) SessionFault → Result (Unit {0}) LoadFault
-then_admitted (Ok p) r = as_searched r
+abbrev pub then_admitted : Result (Unit {0}) Fault → Result (Unit {0}) SessionFault → Result (Unit {0}) LoadFault
+then_admitted (Ok u) r = as_searched r
 then_admitted (Err f) r = Err (BadProblem f)
 
 -- first the bytes, then the request
 abbrev pub admitted : List ℕ → Request → ℕ → Room → Result (Unit {0}) LoadFault
-admitted bs r most room = then_admitted (verdict bs) (request_admitted r most room)
+admitted bs r most room = then_admitted (checked (verdict bs)) (request_admitted r most room)
 
 -- what the tests of all but the room for a model leave
 pub record Admits (r : Request) (answers : ℕ) : Type 0 where
@@ -48,3 +47,10 @@ pub record Admits (r : Request) (answers : ℕ) : Type 0 where
   pub rounds : (1 ≤ r.rounds) × (r.rounds ≤ 65535)
   pub steps : (1 ≤ r.steps) × (r.steps ≤ 4096)
   pub answers_fit : depths r ≤ answers
+
+-- what all of them leave
+pub record Passed (r : Request) (most : ℕ) (room : Room) : Type 0 where
+  pub admits : Admits r room.answers
+  pub way : most ≤ room.way
+  pub literals : most ≤ room.literals
+  pub model : 1584 ≤ room.model

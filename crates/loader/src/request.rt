@@ -1,6 +1,6 @@
 // What a loader wants searched, and the tests of it.
-ghost use Rattle.std.specs.Prelude.{◌≡◌, ◌≤◌, length, OnOk};
-ghost use Rattle.loader.specs.Requests.{admitted, request_admitted};
+ghost use Rattle.std.specs.Prelude.{◌≡◌, OnOk};
+ghost use Rattle.loader.specs.Requests.{Passed, admitted, request_admitted};
 
 use boundary::faults::LoadFault;
 use sessions::faults::SessionFault;
@@ -37,7 +37,8 @@ pub const MOST_MODEL: usize = 1_584;
 
 // Whether a chooser with so many variables at most is given what it needs to search.
 fn check_request(request: &Request, most: usize, room: Room) -> Result<(), SessionFault>
-    ensures { result ≡ request_admitted request.now most room }
+    ensures exact { result ≡ request_admitted request.now most room }
+    ensures leaves { OnOk result (Passed request.now most room) }
 {
     let Request {
         first,
@@ -68,7 +69,8 @@ pub(crate) fn admit(
     most: usize,
     room: Room,
 ) -> Result<(), LoadFault>
-    ensures { result ≡ admitted bytes.now request.now most room }
+    ensures exact { result ≡ admitted bytes.now request.now most room }
+    ensures leaves { OnOk result (Passed request.now most room) }
 {
     check(bytes)?;
     match check_request(request, most, room) {
