@@ -24,12 +24,9 @@ use Rattle.std.proofs.Common.{Option as Maybe, Some, None}
 use Rattle.histories.specs.Calls.{plain, hand_refusal}
 use Rattle.std.proofs.lemmas.Bool.{cond-true}
 use Rattle.std.specs.Prelude.{OnErr}
+use Rattle.std.specs.Result.{result_unwrap_or}
 use Rattle.sessions.specs.Shown.{ShowsIn, ShowsBegun}
 use Rattle.sessions.specs.Faults.{refusal_of}
-
-abbrev pub unwrapped : Result ℕ SessionFault → ℕ
-unwrapped (Ok n) = n
-unwrapped (Err f) = 0
 
 module _ {p : Problem} (lawful : Lawful p) {steps : ℕ} (s : Session) {state : Abstract} {M : Meaning} (shows : Shows s (begun state))
     (left : LeftBy p steps state M) (old new : List ℕ) (long : 1584 ≤ length old) where
@@ -62,7 +59,7 @@ module _ {p : Problem} (lawful : Lawful p) {steps : ℕ} (s : Session) {state : 
               (subst (λ v. ReplaysTrue v (take n new) state.force a.steps) left.problem (h.replays left.calls M left.history)));
         }
 
-    handed : (r : Result ℕ SessionFault) → Modelled p (begun state) old new r → ModelIs p steps state a old new (unwrapped r)
+    handed : (r : Result ℕ SessionFault) → Modelled p (begun state) old new r → ModelIs p steps state a old new (result_unwrap_or r 0)
     handed (Ok n) m = handed_is n m.room (m.hands_over left.problem a hand)
     handed (Err f) m =
         let room = room_for (m.hands_over left.problem a hand) in
@@ -70,7 +67,7 @@ module _ {p : Problem} (lawful : Lawful p) {steps : ℕ} (s : Session) {state : 
         (sym (m.refuses ∙ ap (λ o. hand_refusal o m.room) hand ∙ cond-true m.room _ _ room)))
 
   pub model_left : (r : Result ℕ SessionFault) → Modelled p (begun state) old new r → OnErr r (new ≡ old) → (o : Option AtHand) → state.model ≡ o
-      → ModelLeft p steps state o old new (unwrapped r)
+      → ModelLeft p steps state o old new (result_unwrap_or r 0)
   model_left (Ok n) m same none e = absurd (none-ne-some (plain 45) (m.refuses ∙ ap (λ o. hand_refusal o m.room) e))
   model_left (Err f) m same none e = (refl, same)
   model_left r m same (some a) e = handed a e r m

@@ -1,5 +1,5 @@
 -- What is known after so many depths. Assumes nothing.
-use Rattle.std.proofs.Common.{◌≡◌, ℕ, suc, ◌+◌, ◌-◌, ◌<◌, ◌≤◌, Bool, true, false, cond, ◌&&◌, List, [], ◌∷◌, ◌++◌, length, map, drop, set, get_or, eqb, leb, Ok, Err, Result, refl, sym, ap, ◌∙◌, subst, arith}
+use Rattle.std.proofs.Common.{◌≡◌, ℕ, suc, ◌+◌, ◌-◌, ◌*◌, ◌<◌, ◌≤◌, Bool, true, false, cond, ◌&&◌, List, [], ◌∷◌, ◌++◌, length, map, drop, set, get_or, eqb, leb, Ok, Err, Result, refl, sym, ap, ◌∙◌, subst, arith}
 use Rattle.std.proofs.Math.Option.{Option, none, some, none-ne-some}
 use Rattle.std.proofs.Math.Seq.{set-append_seam}
 use Rattle.std.proofs.lemmas.Bool.{true≢false, le-leb, eq-eqb, and_from, cond-true, both_ways}
@@ -13,17 +13,27 @@ use Rattle.histories.specs.Histories.{Event, searched, History, search_called}
 use Rattle.histories.specs.Theorem.{Claims, Right, Solvable}
 use Rattle.answers.specs.declared.answer.Answer.{Answer}
 use Rattle.answers.specs.Told.{outcome_of, answer_of}
+use Rattle.rounds.specs.Lent.{Kept}
+use Rattle.rounds.specs.declared.search.Lent.{Lent}
 use Rattle.rounds.specs.declared.search.Limits.{Limits}
 use Rattle.sessions.specs.declared.session.Session.{Session}
 use Rattle.sessions.specs.declared.faults.SessionFault.{SessionFault}
 use Rattle.sessions.specs.Faults.{told, refusal_of}
+use Rattle.sessions.specs.Limits.{suffice}
 use Rattle.sessions.specs.Shown.{Shows}
 use Rattle.sessions.specs.Searching.{Tells, FoundBy, Searched}
 use Rattle.boundary.specs.declared.answering.DepthAnswer.{DepthAnswer}
 use Rattle.loader.specs.declared.request.Request.{Request}
 use Rattle.boundary.specs.Answering.{as_written}
+use Rattle.loader.specs.Requests.{Admits}
 use Rattle.loader.specs.Sessions.{all_goals, forced, Put}
 use Rattle.loader.specs.Depths.{goes_on, is_none_within, Deepens, through, closed, none_here, Believed, AllBelieved, crossing, LeftBy, Deepened}
+
+-- what is lent to a search suffices
+enough : (most steps places bytes literals : ℕ) → 6 * steps ≤ places → most ≤ bytes → most ≤ literals
+    → suffice most steps places bytes literals ≡ true
+enough most steps places bytes literals a b c =
+    and_from _ _ (le-leb (6 * steps) places a) (and_from _ _ (le-leb most bytes b) (le-leb most literals c))
 
 -- a model at hand is of this search's steps
 steps_of : (n steps : ℕ) (o : Abstractly) (m : AtHand) → in_hand n steps o ≡ some m → m.steps ≡ steps
@@ -205,12 +215,30 @@ module _ (p : Problem) (M₀ : Meaning) (r : Request) where
       step_told a (refused v) S' searches shows claims tells = absurd tells
       step_told a (answered t) S' searches shows claims tells = step_by a (answered t) S' searches shows claims t refl tells
 
-      pub stepped : (a : Answer) → Searched p (record { depth = r.first + k; rounds = r.rounds; steps = r.steps }) buffers (begun h.state) M s' M' (Ok a) → Step p r k h.state M s' M' a
+      stepped : (a : Answer) → Searched p (record { depth = r.first + k; rounds = r.rounds; steps = r.steps }) buffers (begun h.state) M s' M' (Ok a) → Step p r k h.state M s' M' a
       stepped a l =
           let f = l.finds h.left.problem in
           step_told a f.reply f.state
           (subst (λ b. Searches (r.first + k) r.rounds r.steps b (begun h.state) M f.reply f.state M') room f.searches) f.shows
           (f.overlooks_nothing h.left.calls h.left.history) f.tells
+
+    -- a search with what was lent to all of them, which stayed as long as it was
+    pub step_here : {answers : ℕ} → Admits r answers → r.first + k ≤ r.last → {most : ℕ} {lent lent' : Lent} (way way' : List ℕ)
+        → 6 * r.steps ≤ length lent.places.now → most ≤ length way → most ≤ length lent.literals.now → Kept lent lent'
+        → length way' ≡ length way → {s' : Session} {M' : Meaning} (a : Answer)
+        → ((S : State) → Shows s S
+        → Searched p (record { depth = r.first + k; rounds = r.rounds; steps = r.steps })
+        (suffice most r.steps (length lent'.places.now) (length way') (length lent'.literals.now)) S M s' M' (Ok a))
+        → Step p r k h.state M s' M' a
+    step_here admits within {most} {lent} {lent'} way way' places bytes literals kept same a l =
+        let low = admits.first in
+        let high = admits.last in
+        let kept_places = kept.places in
+        let kept_literals = kept.literals in
+        stepped (suffice most r.steps (length lent'.places.now) (length way') (length lent'.literals.now))
+        (enough most r.steps (length lent'.places.now) (length way') (length lent'.literals.now) (omega (arith, places, kept_places))
+        (omega (arith, bytes, same)) (omega (arith, literals, kept_literals))) (omega (arith, low)) (omega (arith, within, high)) admits.rounds
+        admits.steps a (l (begun h.state) h.shows)
 
     module _ {s' : Session} {M' : Meaning} {a : Answer} (w : Step p r k h.state M s' M' a) where
       abbrev told' : List Told
