@@ -6,10 +6,10 @@ ghost use Rattle.loader.specs.Requests.{Admits};
 ghost use Rattle.loader.specs.Searching.{SoughtBy, Answered};
 ghost use Rattle.rows.specs.declared.store.TheConstants.{MOST_VARIABLES};
 
-use boundary::answering::DepthAnswer;
-use boundary::faults::LoadFault;
 use crate::request::{Request, Room, admit};
 use crate::under_goals::Seeker;
+use boundary::answering::DepthAnswer;
+use boundary::faults::LoadFault;
 use chooser::Chooser;
 use held::places::Place;
 use judge::left::STEP_PLACES;
@@ -115,12 +115,7 @@ pub fn search_learning(
         answers: answers.len(),
         model: model.len(),
     };
-    admit(
-        bytes,
-        request,
-        usize::from(Learning::MAX_VARIABLES),
-        room,
-    )?;
+    admit(bytes, request, usize::from(Learning::MAX_VARIABLES), room)?;
     let problem = take(heap, bytes)?;
     let mut chooser = Learning::new(heap, usize::from(request.entries))?;
     Ok(search_with(

@@ -5,9 +5,9 @@ ghost use Rattle.loader.specs.Requests.{Admits};
 ghost use Rattle.loader.specs.Sessions.{Put};
 ghost use Rattle.loader.specs.Searching.{Sought};
 
-use boundary::answering::DepthAnswer;
 use crate::request::Request;
 use crate::searching::Found;
+use boundary::answering::DepthAnswer;
 use chooser::Chooser;
 use problem::problem::Problem;
 use rounds::search::Lent;
