@@ -1,27 +1,26 @@
 -- What is known after so many depths. Assumes nothing.
-use Rattle.std.proofs.Common.{◌≡◌, ℕ, suc, ◌+◌, ◌-◌, ◌*◌, ◌<◌, ◌≤◌, Bool, true, false, cond, ◌&&◌, List, [], ◌∷◌, ◌++◌, length, map, drop, set, get_or, eqb, leb, Ok, Err, Result, refl, sym, ap, ◌∙◌, subst, arith}
+use Rattle.std.proofs.Common.{◌≡◌, ℕ, suc, ◌+◌, ◌*◌, ◌<◌, ◌≤◌, Bool, true, false, ◌&&◌, List, [], ◌∷◌, ◌++◌, length, map, drop, set, get_or, Ok, Err, refl, sym, ap, ◌∙◌, subst, arith}
 use Rattle.std.proofs.Math.Option.{Option, none, some, none-ne-some}
 use Rattle.std.proofs.Math.Seq.{set-append_seam}
-use Rattle.std.proofs.lemmas.Bool.{true≢false, le-leb, eq-eqb, and_from, cond-true, both_ways}
+use Rattle.std.proofs.lemmas.Bool.{le-leb, eq-eqb, and_from, cond-true}
 use Rattle.std.proofs.lemmas.List.{append_assoc, drop_more, length-map, map-append, length-append}
 use Rattle.chooser.specs.Meaning.{Meaning}
 use Rattle.syntax.specs.Problems.{Problem}
-use Rattle.histories.specs.States.{AtHand, Session as Abstract, State, begun, start}
+use Rattle.histories.specs.States.{AtHand, Session as Abstract, State, begun}
 use Rattle.histories.specs.Rounds.{Outcome as Abstractly, model, none_within, never, foreign, spent_rounds, spent_steps, spent_unknowns, spent_chooser, Answer as Told}
-use Rattle.histories.specs.Calls.{Refusal, plain, between, seen, in_hand, search_refusal, after_search, known, Reply, refused, answered, Searches, search_refused, search_shallow, search_made}
-use Rattle.histories.specs.Histories.{Event, searched, History, search_called}
+use Rattle.histories.specs.Calls.{between, seen, in_hand, search_refusal, after_search, known, Reply, refused, answered, Searches, search_shallow, search_made}
+use Rattle.histories.specs.Histories.{searched, search_called}
 use Rattle.histories.specs.Theorem.{Claims, Right, Solvable}
 use Rattle.answers.specs.declared.answer.Answer.{Answer}
 use Rattle.answers.specs.Told.{outcome_of, answer_of}
 use Rattle.rounds.specs.Lent.{Kept}
 use Rattle.rounds.specs.declared.search.Lent.{Lent}
-use Rattle.rounds.specs.declared.search.Limits.{Limits}
 use Rattle.sessions.specs.declared.session.Session.{Session}
 use Rattle.sessions.specs.declared.faults.SessionFault.{SessionFault}
-use Rattle.sessions.specs.Faults.{told, refusal_of}
+use Rattle.sessions.specs.Faults.{refusal_of}
 use Rattle.sessions.specs.Limits.{suffice}
 use Rattle.sessions.specs.Shown.{Shows}
-use Rattle.sessions.specs.Searching.{Tells, FoundBy, Searched}
+use Rattle.sessions.specs.Searching.{Tells, Searched}
 use Rattle.boundary.specs.declared.answering.DepthAnswer.{DepthAnswer}
 use Rattle.loader.specs.declared.request.Request.{Request}
 use Rattle.boundary.specs.Answering.{as_written}

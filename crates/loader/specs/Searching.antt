@@ -1,6 +1,5 @@
 -- A search of a problem with all its goals in force. Assumes nothing.
-use Rattle.std.specs.Prelude.{◌≡◌, ℕ, ◌≤◌, true, List, [], ◌++◌, length, map, drop, is_ok, Ok, Err, Result}
-use Rattle.std.specs.Prelude.{Option as Maybe}
+use Rattle.std.specs.Prelude.{◌≡◌, ℕ, List, [], ◌++◌, length, map, drop, Ok, Err, Result}
 use Rattle.std.proofs.Math.ListN.{take}
 use Rattle.std.proofs.Math.Option.{Option, none, some}
 use Rattle.chooser.specs.Meaning.{Meaning}
@@ -16,7 +15,7 @@ use Rattle.models.specs.Replays.{ReplaysTrue}
 use Rattle.verdict.specs.Verdict.{decoded}
 use Rattle.boundary.specs.declared.answering.DepthAnswer.{DepthAnswer}
 use Rattle.boundary.specs.declared.faults.LoadFault.{LoadFault}
-use Rattle.boundary.specs.declared.faults.LoadFault.TheVariants.{BadProblem, NotSearched, NotReplayed, NotTold, NoAnswer, NoMemory}
+use Rattle.boundary.specs.declared.faults.LoadFault.TheVariants.{NoMemory}
 use Rattle.loader.specs.declared.request.Request.{Request}
 use Rattle.loader.specs.declared.request.Room.{Room}
 use Rattle.loader.specs.declared.searching.Found.{Found}
