@@ -1,5 +1,5 @@
 -- A search of a problem with all its goals in force. Assumes nothing.
-use Rattle.std.specs.Prelude.{◌≡◌, ℕ, List, [], ◌++◌, length, map, drop, Ok, Err, Result}
+use Rattle.std.specs.Prelude.{◌≡◌, ℕ, List, [], ◌++◌, length, map, drop, MatchResult, Ok, Err, Result}
 use Rattle.std.proofs.Math.ListN.{take}
 use Rattle.std.proofs.Math.Option.{Option, none, some}
 use Rattle.chooser.specs.Meaning.{Meaning}
@@ -59,15 +59,12 @@ pub record Same (before after : List DepthAnswer) (old new : List ℕ) : Type 0 
   pub answers : after ≡ before
   pub model : new ≡ old
 
-abbrev pub SoughtBy : {E : Type 0} → ℕ → Problem → Request → List DepthAnswer → List DepthAnswer → List ℕ → List ℕ → Result Found E → Type 0
+-- the search, or want of memory, which changes nothing
+abbrev pub SoughtBy : ℕ → Problem → Request → List DepthAnswer → List DepthAnswer → List ℕ → List ℕ → Result Found LoadFault → Type 0
 SoughtBy most p r before after old new (Ok f) = SoughtNew most p r before after old new f
-SoughtBy most p r before after old new (Err e) = Same before after old new
+SoughtBy most p r before after old new (Err f) = (f ≡ NoMemory) × Same before after old new
 
--- want of memory comes only where nothing else is amiss
-abbrev pub SearchFailed : Result (Unit {0}) LoadFault → LoadFault → Type 0
-SearchFailed (Ok u) f = f ≡ NoMemory
-SearchFailed (Err g) f = f ≡ g
-
+-- What the tests refuse changes nothing. Else the problem that the bytes are is searched.
 abbrev pub Answered : ℕ → List ℕ → Request → Room → List DepthAnswer → List DepthAnswer → List ℕ → List ℕ → Result Found LoadFault → Type 0
-Answered most bs r room before after old new (Ok f) = (admitted bs r most room ≡ Ok tt) × SoughtNew most (decoded bs) r before after old new f
-Answered most bs r room before after old new (Err f) = SearchFailed (admitted bs r most room) f × Same before after old new
+Answered most bs r room before after old new x =
+    MatchResult (admitted bs r most room) (λ _. SoughtBy most (decoded bs) r before after old new x) (λ f. (x ≡ Err f) × Same before after old new)

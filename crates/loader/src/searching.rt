@@ -19,7 +19,7 @@ use problem::problem::Problem;
 use problem::take::take;
 use rounds::search::Lent;
 use sessions::session::Session;
-use std::alloc::{AllocError, Global};
+use std::alloc::Global;
 
 // What a search has written: the answers of so many depths, and so many bytes of a model, none where none was found.
 #[repr(C)]
@@ -39,7 +39,7 @@ fn search_with<C: Chooser>(
     literals: &mut [u16],
     answers: &mut [DepthAnswer],
     model: &mut [u8],
-) -> Result<Found, AllocError>
+) -> Result<Found, LoadFault>
     requires fresh { Fresh (C.Chooser.meaning chooser.old) C.Chooser.MAX_VARIABLES request.now.entries }
     requires most { 32 ≤ C.Chooser.MAX_VARIABLES }
     requires way { C.Chooser.MAX_VARIABLES ≤ length way.old }
@@ -85,7 +85,7 @@ pub fn search_plain(
     admit(bytes, request, usize::from(Plain::MAX_VARIABLES), room)?;
     let problem = take(heap, bytes)?;
     let mut chooser = Plain::new(heap, usize::from(request.entries))?;
-    Ok(search_with(
+    search_with(
         heap,
         &problem,
         &mut chooser,
@@ -94,7 +94,7 @@ pub fn search_plain(
         literals,
         answers,
         model,
-    )?)
+    )
 }
 
 // Searches with the learning chooser, and else as `search_plain` does.
@@ -118,7 +118,7 @@ pub fn search_learning(
     admit(bytes, request, usize::from(Learning::MAX_VARIABLES), room)?;
     let problem = take(heap, bytes)?;
     let mut chooser = Learning::new(heap, usize::from(request.entries))?;
-    Ok(search_with(
+    search_with(
         heap,
         &problem,
         &mut chooser,
@@ -127,5 +127,5 @@ pub fn search_learning(
         literals,
         answers,
         model,
-    )?)
+    )
 }
