@@ -3,7 +3,7 @@ use Rattle.std.proofs.Common.{◌≡◌, ℕ, suc, ◌+◌, ◌*◌, ◌<◌, �
 use Rattle.std.proofs.Math.Option.{Option, none, some, none-ne-some}
 use Rattle.std.proofs.Math.Seq.{set-append_seam}
 use Rattle.std.proofs.lemmas.Bool.{le-leb, and_from}
-use Rattle.std.proofs.lemmas.List.{append_assoc, drop_more, length-map, map-append, length-append}
+use Rattle.std.proofs.lemmas.List.{append-nil, append_assoc, drop_more, length-map, map-append, length-append}
 use Rattle.chooser.specs.Meaning.{Meaning}
 use Rattle.syntax.specs.Problems.{Problem}
 use Rattle.histories.specs.States.{AtHand, Session as Abstract, State, begun}
@@ -280,10 +280,6 @@ module _ (p : Problem) (M₀ : Meaning) (r : Request) where
             believed = believed';
           }
 
-    append_nothing : (ts : List Told) → ts ++ [] ≡ ts
-    append_nothing [] = refl
-    append_nothing (t ∷ ts) = ap (λ l. t ∷ l) (append_nothing ts)
-
     -- every depth was searched
     pub all_through : r.last < r.first + k → Deepened p M₀ r before now s M k
     all_through past =
@@ -291,7 +287,7 @@ module _ (p : Problem) (M₀ : Meaning) (r : Request) where
           told = h.told;
           state = h.state;
           deepens =
-              subst (λ l. Deepens r.rounds r.steps r.last r.first First M₀ l (begun h.state) M) (append_nothing h.told)
+              subst (λ l. Deepens r.rounds r.steps r.last r.first First M₀ l (begun h.state) M) (append-nil h.told)
               (h.more [] (begun h.state) M (through past));
           shows = h.shows;
           left = h.left;
