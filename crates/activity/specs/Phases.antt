@@ -1,5 +1,5 @@
 -- The value that each variable last had.
-use Rattle.std.specs.Prelude.{ℕ, Bool, List, map}
+use Rattle.std.specs.Prelude.{Bool, List, map}
 use Rattle.activity.specs.declared.order.Order.{Order}
 
 abbrev pub phases : Order → List Bool

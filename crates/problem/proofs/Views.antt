@@ -1,5 +1,5 @@
 -- What stands at a place, seen from its first bytes. The parts of a term stand where the table of ends leads. Assumes nothing.
-use Rattle.std.proofs.Common.{◌≡◌, ℕ, zero, suc, ◌+◌, ◌-◌, ◌<◌, ◌≤◌, cond, List, [], ◌∷◌, ◌++◌, length, get_or, drop, sym, refl, ap, ◌∙◌, subst, add-zero, arith, lt-ltb}
+use Rattle.std.proofs.Common.{◌≡◌, ℕ, zero, suc, ◌+◌, ◌<◌, ◌≤◌, cond, List, [], ◌∷◌, ◌++◌, length, get_or, drop, sym, refl, ap, ◌∙◌, subst, add-zero, arith, lt-ltb}
 use Rattle.std.proofs.lemmas.List.{length-drop}
 use Rattle.syntax.specs.Terms.{Term, Terms, var, unknown, con, call, case, both, not, equal, t[], ◌t∷◌, encode, encodes}
 use Rattle.syntax.specs.Typing.{Sig, Want, want, each_of, branches_of, AllTyped, constructors, arguments, params_of, cases_of}
