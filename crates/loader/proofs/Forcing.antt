@@ -1,19 +1,17 @@
 -- Bringing one goal after the other into force. Assumes nothing.
-use Rattle.std.proofs.Common.{◌≡◌, ℕ, suc, ◌+◌, ◌<◌, ◌≤◌, Bool, true, false, cond, ◌⊎◌, inl, inr, List, [], ◌∷◌, length, eqb, ltb, Ok, Err, Result, refl, sym, ap, ◌∙◌, subst, arith, add-one}
+use Rattle.std.proofs.Common.{◌≡◌, ℕ, suc, ◌+◌, ◌<◌, ◌≤◌, Bool, true, false, cond, inl, inr, [], ◌∷◌, length, eqb, ltb, Ok, Err, refl, sym, ap, ◌∙◌, subst, arith, add-one}
 use Rattle.std.proofs.Math.Option.{Option, none, some, none-ne-some}
 use Rattle.std.proofs.Math.Path.{fun_ext}
 use Rattle.std.proofs.lemmas.Bool.{true≢false, eqb-true, eqb-false, ltb-true, ltb-false, lt-ltb, le-ltb, cond-true, cond-false}
 use Rattle.chooser.specs.Meaning.{Meaning}
 use Rattle.chooser.specs.Made.{Fresh}
 use Rattle.syntax.specs.Problems.{Problem}
-use Rattle.finder.specs.Ways.{Way}
 use Rattle.finder.specs.Clauses.{Extended}
-use Rattle.histories.specs.States.{Session as Abstract, State, not_begun, begun, start}
+use Rattle.histories.specs.States.{State, not_begun, begun, start}
 use Rattle.histories.specs.Calls.{Refusal, plain, forcing, with_force, refused_state, put_refusal, put_in, after_put, Begins, not_new, too_few, begins}
-use Rattle.histories.specs.Histories.{Event, began, put, History, new, begin_accepted, put_called}
+use Rattle.histories.specs.Histories.{began, put, History, new, begin_accepted, put_called}
 use Rattle.sessions.specs.declared.session.Session.{Session}
 use Rattle.sessions.specs.declared.faults.SessionFault.{SessionFault}
-use Rattle.sessions.specs.Faults.{told}
 use Rattle.sessions.specs.Shown.{Shows}
 use Rattle.sessions.specs.Beginning.{Began}
 use Rattle.loader.specs.Sessions.{below, forced, Put}
@@ -56,6 +54,7 @@ module _ (p : Problem) (M : Meaning) (g : ℕ) (inside : g < length p.goals) whe
 begins_unforced : (p : Problem) (M : Meaning) → begun (start p M) ≡ begun (forced p M 0)
 begins_unforced p M = ap (λ f. begun (with_force (start p M) f)) (fun_ext (λ h. sym (le-ltb h 0 (omega arith))))
 
+-- what an accepted begin leaves
 pub record Beginning (p : Problem) (M M' : Meaning) (s' : Session) : Type 0 where
   pub switched : Extended M M' (length p.goals) []
   pub ready : Put p M' 0 s'

@@ -1,5 +1,5 @@
 -- The tests of a request, in their order. Assumes nothing.
-use Rattle.std.specs.Prelude.{◌≡◌, ℕ, ◌+◌, ◌-◌, ◌≤◌, Bool, cond, ◌&&◌, List, nat_le, Ok, Err, Result}
+use Rattle.std.specs.Prelude.{ℕ, ◌+◌, ◌-◌, ◌≤◌, Bool, cond, ◌&&◌, List, nat_le, Ok, Err, Result}
 use Rattle.syntax.specs.declared.faults.Fault.{Fault}
 use Rattle.verdict.specs.Verdict.{verdict, checked}
 use Rattle.sessions.specs.declared.faults.SessionFault.{SessionFault}
