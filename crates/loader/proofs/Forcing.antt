@@ -54,6 +54,7 @@ module _ (p : Problem) (M : Meaning) (g : ℕ) (inside : g < length p.goals) whe
 begins_unforced : (p : Problem) (M : Meaning) → begun (start p M) ≡ begun (forced p M 0)
 begins_unforced p M = ap (λ f. begun (with_force (start p M) f)) (fun_ext (λ h. sym (le-ltb h 0 (omega arith))))
 
+-- what an accepted begin leaves
 pub record Beginning (p : Problem) (M M' : Meaning) (s' : Session) : Type 0 where
   pub switched : Extended M M' (length p.goals) []
   pub ready : Put p M' 0 s'

@@ -1,5 +1,5 @@
 // Searching a problem with all its goals in force.
-ghost use Rattle.std.specs.Prelude.{◌≡◌, ◌≤◌, length};
+ghost use Rattle.std.specs.Prelude.{◌≤◌, length};
 ghost use Rattle.problem.specs.Meant.{meant};
 ghost use Rattle.chooser.specs.Made.{Fresh};
 ghost use Rattle.loader.specs.Requests.{Admits};

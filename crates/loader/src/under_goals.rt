@@ -1,5 +1,5 @@
 // Searching under the goals: each is put by a call of its own that holds its slip while the innermost searches.
-ghost use Rattle.std.specs.Prelude.{◌≡◌, ◌*◌, ◌≤◌, length};
+ghost use Rattle.std.specs.Prelude.{◌*◌, ◌≤◌, length};
 ghost use Rattle.problem.specs.Meant.{meant};
 ghost use Rattle.loader.specs.Requests.{Admits};
 ghost use Rattle.loader.specs.Sessions.{Put};
