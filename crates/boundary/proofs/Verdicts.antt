@@ -5,6 +5,7 @@ use Rattle.syntax.specs.declared.faults.Fault.{Fault}
 use Rattle.syntax.specs.Problems.{Problem as Meaning}
 use Rattle.verdict.specs.Verdict.{verdict, problem_in, decoded, checked}
 use Rattle.problem.specs.Meant.{meant}
+use Rattle.problem.proofs.Lawfulness.{was_accepted}
 use Rattle.problem.specs.Taken.{Taken}
 use Rattle.problem.specs.declared.problem.Problem.{Problem}
 use Rattle.boundary.specs.declared.faults.LoadFault.{LoadFault}
@@ -21,12 +22,8 @@ pub accepted_by : (v : Result Meaning Fault) → Ok tt ≡ checked v → is_ok v
 accepted_by (Ok p) e = refl
 accepted_by (Err g) e = absurd (true≢false (ap is_ok e))
 
-pub decoded_so : (v : Result Meaning Fault) → is_ok v ≡ true → v ≡ Ok (problem_in v)
-decoded_so (Ok p) e = refl
-decoded_so (Err g) e = absurd (false≢true e)
-
 pub loaded_so : (bs : List ℕ) (p : Problem) → is_ok (verdict bs) ≡ true → Taken bs p → verdict bs ≡ Ok (meant p)
-loaded_so bs p ok t = decoded_so (verdict bs) ok ∙ ap Ok (sym t.means)
+loaded_so bs p ok t = was_accepted (verdict bs) ok ∙ ap Ok (sym t.means)
 
 pub ok_of : (bs : List ℕ) (p : Problem) → verdict bs ≡ Ok (meant p) → is_ok (verdict bs) ≡ true
 ok_of bs p e = ap is_ok e

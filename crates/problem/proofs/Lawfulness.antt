@@ -12,7 +12,8 @@ use Rattle.kept.proofs.Records.{same_bytes}
 use Rattle.problem.specs.declared.problem.Problem.{Problem as Taken}
 use Rattle.problem.specs.Meant.{held, meant}
 
-was_accepted : (r : Result Problem Fault) → is_ok r ≡ true → r ≡ Ok (problem_in r)
+-- what was accepted is its problem
+pub was_accepted : (r : Result Problem Fault) → is_ok r ≡ true → r ≡ Ok (problem_in r)
 was_accepted (Ok p) e = refl
 was_accepted (Err f) e = absurd (false≢true e)
 
