@@ -48,8 +48,9 @@ enum {
 #define FINDER_MODEL_TEXT (5 * FINDER_MODEL)
 #define FINDER_LINE 128
 
-/* No problem has more goals. */
+/* No problem has more goals, and no search goes deeper. */
 #define FINDER_GOALS 32
+#define FINDER_DEPTHS 64
 
 /* What is searched: the depths from first to last, one after the other, each with so many rounds, and so many steps for each judging
    of a goal. The chooser is made with so many entries. */
@@ -106,8 +107,16 @@ struct finder_status finder_search_learning(
     struct finder_answer *answers, size_t answers_length, uint8_t *model, size_t model_length,
     struct finder_found *found);
 
-/* Judges each goal under a model, with so many steps, into a byte of `answer`: 0 false, 1 true, 2 out of steps, 3 waiting on an open
-   part. `goals` is set to the number of goals; bytes behind them stay. */
+/* What a replay says of a goal. */
+enum finder_truth {
+    FINDER_FALSE = 0,
+    FINDER_TRUE = 1,
+    FINDER_OUT = 2,    /* the steps do not suffice */
+    FINDER_WAITING = 3 /* on a part of the model that is left open */
+};
+
+/* Judges each goal under a model, with so many steps, into a byte of `answer`, an enum finder_truth. `goals` is set to the number of
+   goals; bytes behind them stay. */
 struct finder_status finder_replay(
     const uint8_t *problem, size_t problem_length, const uint8_t *model, size_t model_length,
     size_t steps, uint8_t *answer, size_t answer_length, size_t *goals);

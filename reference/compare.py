@@ -1,4 +1,4 @@
-"""Compares the programs with the reference: python3 compare.py [--seed N] [--count N] [--programs DIR].
+"""Compares the programs with the reference: python3 compare.py [--seed N] [--count N] [--programs DIR] [--loader FILE].
 
 Problem number i of a run has the seed N + i, so that `--seed S --count 1` runs a single one again. It prints how often
 each kind of comparison and each outcome came, and every difference with its seed and a file of its bytes. The exit status
@@ -130,12 +130,13 @@ def main():
     parser.add_argument("--seed", type=int, default=1)
     parser.add_argument("--count", type=int, default=2000)
     parser.add_argument("--programs", default=os.path.join(here, "..", "crates"))
+    parser.add_argument("--loader", help="the loader in C, as c/build.sh builds it")
     parser.add_argument("--first", action="store_true", help="ends with the first seed that differs")
     parser.add_argument("--keep", default=os.path.join(tempfile.gettempdir(), "reference-differences"))
     options = parser.parse_args()
     tally = Tally(options.keep)
     with tempfile.TemporaryDirectory() as work:
-        comparing = Comparing(Programs(options.programs, work), tally)
+        comparing = Comparing(Programs(options.programs, work, options.loader), tally)
         examples(comparing, os.path.join(here, "..", "examples"))
         longest(comparing)
         for seed in range(options.seed, options.seed + options.count):

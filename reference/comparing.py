@@ -11,6 +11,11 @@ from sessions import FINISHED, STEPS_AT_MOST
 
 MODEL_BYTES_AT_MOST = 1584
 
+# The exit status of the loader in C by the word of the last answer; any other is of a search that a count stopped.
+LOADED = {"MODEL": 1, "NONE": 0, "NEVER": 0}
+STOPPED = 2
+REFUSED = 3
+
 
 class Comparing:
     def __init__(self, programs, tally):
@@ -26,17 +31,23 @@ class Comparing:
             self.tally.differ(label, f"{kind}: {failed}", **files)
             return
         if lines != ours:
-            self.tally.differ(label, f"{kind}: the program says {lines[:8]}, the reference {ours[:8]}", **files)
+            self.tally.differ(label, f"{kind}: the program says {lines[:8]} and not {ours[:8]}", **files)
 
     def check(self, label, data):
         """The problem, or None if the reference refuses it."""
         ours = finder.list_lines(data)
         self.alike("check", label, ours, lambda: self.programs.list(data), problem=data)
         if ours[0].startswith("refused"):
+            self.load(label, data, (1, 1, 1, "--plain"), ours, REFUSED)
             self.tally.count("check", "refused", int(ours[0].split()[1]))
             return None
         self.tally.count("check", "accepted")
         return read_problem(data)
+
+    def load(self, label, data, options, lines, status):
+        """That the loader in C, if it was built, prints these lines."""
+        if self.programs.loader_path is not None:
+            self.alike("the loader in C", label, lines, lambda: self.programs.load(data, options, status), problem=data)
 
     def replay(self, label, data, model, kind="replay"):
         ours = finder.replay_lines(data, model)
@@ -91,6 +102,8 @@ class Comparing:
         for answer in ours:
             self.tally.count(f"{kind}: the reference", answer.word)
         if tell.row(answers, depth, rounds):
+            told = [answer.line for answer in answers] + lines
+            self.load(label, data, options, told, LOADED.get(answers[-1].word, STOPPED))
             self.outcomes(tell, problem, answers, ours, bound)
             found = self.model(tell, problem, answers[-1], steps, lines, model)
             self.opened_alone(tell, answers, session, found)

@@ -25,9 +25,12 @@ class Found:
 
 
 class Programs:
-    def __init__(self, folder, work):
+    """`loader` is the loader in C, None where it was not built."""
+
+    def __init__(self, folder, work, loader=None):
         self.seek_path = os.path.join(folder, "seek", "out", "seek")
         self.replay_path = os.path.join(folder, "replay_model", "out", "replay_model")
+        self.loader_path = loader
         self.work = work
 
     def keep(self, name, data):
@@ -37,9 +40,9 @@ class Programs:
         return path
 
     @staticmethod
-    def run(*arguments):
+    def run(*arguments, status=0):
         ended = subprocess.run(arguments, capture_output=True, text=True, timeout=120)
-        if ended.returncode != 0:
+        if ended.returncode != status:
             raise Failed(f"{arguments[0]} ended with {ended.returncode}: {(ended.stdout + ended.stderr)[-300:]!r}")
         if ended.stdout and not ended.stdout.endswith("\n"):
             raise Failed(f"no newline at the end of {ended.stdout[-100:]!r}")
@@ -60,6 +63,12 @@ class Programs:
             return answers, lines[len(answers) :], None
         with open(model, "rb") as file:
             return answers, lines[len(answers) :], file.read()
+
+    def load(self, data, options, status):
+        """The lines of the loader in C, which has to end with this status."""
+        depth, rounds, steps, chooser = options
+        words = ["--depth", str(depth), "--rounds", str(rounds), "--steps", str(steps), chooser]
+        return self.run(self.loader_path, *words, self.keep("problem", data), status=status)
 
     def replay(self, data, model):
         return self.run(self.replay_path, self.keep("problem", data), self.keep("replayed", model))

@@ -1,5 +1,6 @@
 #!/usr/bin/env bash
-# Builds the programs and compares them with the reference: reference/run.sh [SEED [COUNT]]. The last line is the result.
+# Builds the programs, and the loader in C, and compares them with the reference: reference/run.sh [SEED [COUNT]].
+# The last line is the result.
 set -eu
 cd "$(dirname "$0")/.."
 examples=$PWD/examples
@@ -13,4 +14,5 @@ build() {
 
 build seek "$examples/two-equal-naturals.bin"
 build replay_model "$examples/two-equal-naturals.bin" "$examples/two-equal-naturals.two.model"
-python3 reference/compare.py --seed "${1:-1}" --count "${2:-2000}"
+c/build.sh c/out >&2
+python3 reference/compare.py --loader c/out/loader --seed "${1:-1}" --count "${2:-2000}"

@@ -1,5 +1,5 @@
 -- What a call that begins with a check tells of the bytes. Assumes nothing.
-use Rattle.std.proofs.Common.{◌≡◌, ℕ, ◌*◌, ◌≤◌, Bool, true, false, cond, leb, List, length, is_ok, Ok, Err, Result, refl, sym, ap, ◌∙◌, subst, arith}
+use Rattle.std.proofs.Common.{◌≡◌, ℕ, true, List, is_ok, Ok, Err, Result, refl, sym, ap, ◌∙◌}
 use Rattle.std.proofs.lemmas.Bool.{true≢false, false≢true}
 use Rattle.syntax.specs.declared.faults.Fault.{Fault}
 use Rattle.syntax.specs.Problems.{Problem as Meaning}
@@ -9,20 +9,13 @@ use Rattle.problem.specs.Taken.{Taken}
 use Rattle.problem.specs.declared.problem.Problem.{Problem}
 use Rattle.boundary.specs.declared.faults.LoadFault.{LoadFault}
 use Rattle.boundary.specs.declared.faults.LoadFault.TheVariants.{BadProblem, NotSearched, NotReplayed, NotTold, NoAnswer, NoMemory}
-use Rattle.boundary.specs.Loading.{LoadFailed, Loaded}
+use Rattle.boundary.specs.Loading.{LoadFailed}
 use Rattle.boundary.specs.Replaying.{JudgeFailed}
 use Rattle.boundary.specs.Texts.{ShowFailed}
 
 pub refused_by : (v : Result Meaning Fault) (f : Fault) → Err f ≡ checked v → v ≡ Err f
 refused_by (Ok p) f e = absurd (false≢true (ap is_ok e))
-refused_by (Err g) f e = sym_of e
-  where
-    fault_in : Result (Unit {0}) Fault → Fault
-    fault_in (Ok u) = f
-    fault_in (Err h) = h
-
-    sym_of : Err f ≡ Err g → Err g ≡ Err f
-    sym_of e = ap Err (sym (ap fault_in e))
+refused_by (Err g) f e = cc
 
 pub accepted_by : (v : Result Meaning Fault) → Ok tt ≡ checked v → is_ok v ≡ true
 accepted_by (Ok p) e = refl

@@ -3,7 +3,6 @@ use Rattle.std.specs.Prelude.{◌≡◌, ℕ, true, List, is_ok, Ok, Err, Result
 use Rattle.verdict.specs.Verdict.{verdict}
 use Rattle.problem.specs.Meant.{meant}
 use Rattle.problem.specs.declared.problem.Problem.{Problem}
-use Rattle.sessions.specs.declared.faults.SessionFault.{SessionFault}
 use Rattle.boundary.specs.declared.faults.LoadFault.{LoadFault}
 use Rattle.boundary.specs.declared.faults.LoadFault.TheVariants.{BadProblem, NotSearched, NotReplayed, NotTold, NoAnswer, NoMemory}
 

@@ -1,10 +1,9 @@
 -- A replay of bytes. Assumes nothing.
-use Rattle.std.specs.Prelude.{◌≡◌, ℕ, ◌*◌, ◌<◌, ◌≤◌, true, cond, List, ◌++◌, length, drop, is_ok, Ok, Err, Result, nat_le, slice_index}
+use Rattle.std.specs.Prelude.{◌≡◌, ℕ, ◌*◌, ◌<◌, true, cond, List, length, drop, is_ok, Ok, Err, Result, nat_le, slice_index}
 use Rattle.syntax.specs.Problems.{Problem}
 use Rattle.verdict.specs.Verdict.{verdict, decoded}
 use Rattle.model.specs.Places.{decided_by}
 use Rattle.replay.specs.Replays.{answer_of, accepted}
-use Rattle.replay.specs.declared.faults.ReplayFault.{ReplayFault}
 use Rattle.boundary.specs.declared.faults.LoadFault.{LoadFault}
 use Rattle.boundary.specs.declared.faults.LoadFault.TheVariants.{BadProblem, NotSearched, NotReplayed, NotTold, NoAnswer, NoMemory}
 

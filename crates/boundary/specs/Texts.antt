@@ -1,12 +1,10 @@
 -- Text of answers and models. Assumes nothing.
-use Rattle.std.specs.Prelude.{◌≡◌, ℕ, ◌<◌, true, List, length, is_ok, Ok, Err, Result}
-use Rattle.syntax.specs.Problems.{Problem}
+use Rattle.std.specs.Prelude.{◌≡◌, ℕ, true, List, is_ok, Ok, Err, Result}
 use Rattle.verdict.specs.Verdict.{verdict, decoded}
 use Rattle.answers.specs.declared.answer.Answer.{Answer}
 use Rattle.telling.specs.Lines.{line_text}
 use Rattle.telling.specs.Told.{Told}
 use Rattle.telling.specs.Shown.{Shown}
-use Rattle.telling.specs.declared.faults.TellFault.{TellFault}
 use Rattle.boundary.specs.declared.answering.DepthAnswer.{DepthAnswer}
 use Rattle.boundary.specs.declared.faults.LoadFault.{LoadFault}
 use Rattle.boundary.specs.declared.faults.LoadFault.TheVariants.{BadProblem, NotSearched, NotReplayed, NotTold, NoAnswer, NoMemory}

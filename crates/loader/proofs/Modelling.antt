@@ -1,20 +1,19 @@
 -- The model that the last search left. Assumes nothing.
-use Rattle.std.proofs.Common.{◌≡◌, ℕ, ◌≤◌, Bool, true, false, leb, List, length, drop, ◌++◌, Ok, Err, Result, refl, sym, ap, ◌∙◌, subst, arith}
+use Rattle.std.proofs.Common.{◌≡◌, ℕ, ◌≤◌, Bool, true, List, length, drop, ◌++◌, Ok, Err, Result, refl, sym, ap, ◌∙◌, subst, arith}
 use Rattle.std.proofs.Math.ListN.{take}
 use Rattle.std.proofs.Math.Option.{Option, none, some, none-ne-some}
 use Rattle.std.proofs.lemmas.Bool.{le-leb}
 use Rattle.chooser.specs.Meaning.{Meaning}
 use Rattle.syntax.specs.Problems.{Problem, Lawful}
 use Rattle.finder.specs.Models.{Partials}
-use Rattle.histories.specs.States.{AtHand, Session as Abstract, State, begun}
-use Rattle.histories.specs.Calls.{model_refusal, Writes}
+use Rattle.histories.specs.States.{AtHand, Session as Abstract, begun}
+use Rattle.histories.specs.Calls.{Writes}
 use Rattle.models.specs.Models.{written_model}
 use Rattle.models.specs.Replays.{ReplaysTrue}
 use Rattle.models.proofs.Recording.{fits}
 use Rattle.sessions.specs.declared.session.Begun.{Begun}
 use Rattle.sessions.specs.declared.session.Session.{Session}
 use Rattle.sessions.specs.declared.faults.SessionFault.{SessionFault}
-use Rattle.sessions.specs.Faults.{told}
 use Rattle.sessions.specs.Shown.{Shows}
 use Rattle.sessions.specs.Modelling.{HandedOver, Modelled}
 use Rattle.loader.specs.Sessions.{all_goals}
@@ -25,7 +24,7 @@ use Rattle.histories.specs.Calls.{plain, hand_refusal}
 use Rattle.std.proofs.lemmas.Bool.{cond-true}
 use Rattle.std.specs.Prelude.{OnErr}
 use Rattle.std.specs.Result.{result_unwrap_or}
-use Rattle.sessions.specs.Shown.{ShowsIn, ShowsBegun}
+use Rattle.sessions.specs.Shown.{ShowsIn}
 use Rattle.sessions.specs.Faults.{refusal_of}
 
 module _ {p : Problem} (lawful : Lawful p) {steps : ℕ} (s : Session) {state : Abstract} {M : Meaning} (shows : Shows s (begun state))

@@ -1,31 +1,27 @@
 -- What is known after so many depths. Assumes nothing.
-use Rattle.std.proofs.Common.{◌≡◌, ℕ, suc, ◌+◌, ◌-◌, ◌*◌, ◌<◌, ◌≤◌, Bool, true, false, cond, ◌&&◌, List, [], ◌∷◌, ◌++◌, length, map, drop, set, get_or, eqb, leb, Ok, Err, Result, refl, sym, ap, ◌∙◌, subst, arith}
+use Rattle.std.proofs.Common.{◌≡◌, ℕ, suc, ◌+◌, ◌*◌, ◌<◌, ◌≤◌, Bool, true, false, List, [], ◌∷◌, ◌++◌, length, map, drop, set, get_or, Ok, refl, sym, ap, ◌∙◌, subst, arith}
 use Rattle.std.proofs.Math.Option.{Option, none, some, none-ne-some}
 use Rattle.std.proofs.Math.Seq.{set-append_seam}
-use Rattle.std.proofs.lemmas.Bool.{true≢false, le-leb, eq-eqb, and_from, cond-true, both_ways}
+use Rattle.std.proofs.lemmas.Bool.{le-leb, and_from}
 use Rattle.std.proofs.lemmas.List.{append_assoc, drop_more, length-map, map-append, length-append}
 use Rattle.chooser.specs.Meaning.{Meaning}
 use Rattle.syntax.specs.Problems.{Problem}
-use Rattle.histories.specs.States.{AtHand, Session as Abstract, State, begun, start}
+use Rattle.histories.specs.States.{AtHand, Session as Abstract, State, begun}
 use Rattle.histories.specs.Rounds.{Outcome as Abstractly, model, none_within, never, foreign, spent_rounds, spent_steps, spent_unknowns, spent_chooser, Answer as Told}
-use Rattle.histories.specs.Calls.{Refusal, plain, between, seen, in_hand, search_refusal, after_search, known, Reply, refused, answered, Searches, search_refused, search_shallow, search_made}
-use Rattle.histories.specs.Histories.{Event, searched, History, search_called}
+use Rattle.histories.specs.Calls.{in_hand, after_search, known, Reply, refused, answered, Searches, search_shallow, search_made}
+use Rattle.histories.specs.Histories.{searched, search_called}
 use Rattle.histories.specs.Theorem.{Claims, Right, Solvable}
 use Rattle.answers.specs.declared.answer.Answer.{Answer}
 use Rattle.answers.specs.Told.{outcome_of, answer_of}
 use Rattle.rounds.specs.Lent.{Kept}
 use Rattle.rounds.specs.declared.search.Lent.{Lent}
-use Rattle.rounds.specs.declared.search.Limits.{Limits}
 use Rattle.sessions.specs.declared.session.Session.{Session}
-use Rattle.sessions.specs.declared.faults.SessionFault.{SessionFault}
-use Rattle.sessions.specs.Faults.{told, refusal_of}
 use Rattle.sessions.specs.Limits.{suffice}
 use Rattle.sessions.specs.Shown.{Shows}
-use Rattle.sessions.specs.Searching.{Tells, FoundBy, Searched}
+use Rattle.sessions.specs.Searching.{Tells, Searched}
 use Rattle.boundary.specs.declared.answering.DepthAnswer.{DepthAnswer}
 use Rattle.loader.specs.declared.request.Request.{Request}
 use Rattle.boundary.specs.Answering.{as_written}
-use Rattle.loader.specs.Requests.{Admits}
 use Rattle.loader.specs.Sessions.{all_goals, forced, Put}
 use Rattle.loader.specs.Depths.{goes_on, is_none_within, Deepens, through, closed, none_here, Believed, AllBelieved, crossing, LeftBy, Deepened}
 
@@ -166,24 +162,7 @@ module _ (p : Problem) (M₀ : Meaning) (r : Request) where
       }
 
   module _ {k : ℕ} {before now : List DepthAnswer} {s : Session} {M : Meaning} (h : Past p M₀ r k before now s M) where
-    -- the limits were tested, and the chooser is as the session last saw it
-    accepted : (buffers : Bool) → buffers ≡ true → 1 ≤ r.first + k → r.first + k ≤ 64 → (1 ≤ r.rounds) × (r.rounds ≤ 65535)
-        → (1 ≤ r.steps) × (r.steps ≤ 4096) → search_refusal (begun h.state) M (r.first + k) r.rounds r.steps buffers ≡ none
-    accepted buffers room low high rounds steps =
-        cond-true (between 1 64 (r.first + k)) _ _ (within 1 64 (r.first + k) low high)
-        ∙ cond-true (between 1 65535 r.rounds && between 1 4096 r.steps) _ _
-        (and_from _ _ (within 1 65535 r.rounds rounds.0 rounds.1) (within 1 4096 r.steps steps.0 steps.1))
-        ∙ cond-true buffers _ _ room
-        ∙ cond-true (seen (begun h.state) M) _ _ (and_from _ _ (eq-eqb M.count h.state.count h.counted) (eq-eqb M.left h.state.left h.entries))
-      where
-        within : (low high x : ℕ) → low ≤ x → x ≤ high → between low high x ≡ true
-        within low high x a b = and_from _ _ (le-leb low x a) (le-leb x high b)
-
-    module _ (buffers : Bool) (room : buffers ≡ true) (low : 1 ≤ r.first + k) (high : r.first + k ≤ 64)
-        (rounds : (1 ≤ r.rounds) × (r.rounds ≤ 65535)) (steps : (1 ≤ r.steps) × (r.steps ≤ 4096)) {s' : Session} {M' : Meaning} where
-      pub never_refused : (f : SessionFault) → Searched p (record { depth = r.first + k; rounds = r.rounds; steps = r.steps }) buffers (begun h.state) M s' M' (Err f) → ⊥
-      never_refused f l = none-ne-some (refusal_of f) (sym (accepted buffers room low high rounds steps) ∙ sym l.refuses)
-
+    module _ (buffers : Bool) (room : buffers ≡ true) {s' : Session} {M' : Meaning} where
       step_by : (a : Answer) (reply : Reply) (S' : State) → Searches (r.first + k) r.rounds r.steps true (begun h.state) M reply S' M'
           → Shows s' S' → Claims (r.first + k) r.steps (begun h.state) reply S'
           → (t : Told) → reply ≡ answered t → a ≡ answer_of t → Step p r k h.state M s' M' a
@@ -223,22 +202,18 @@ module _ (p : Problem) (M₀ : Meaning) (r : Request) where
           (f.overlooks_nothing h.left.calls h.left.history) f.tells
 
     -- a search with what was lent to all of them, which stayed as long as it was
-    pub step_here : {answers : ℕ} → Admits r answers → r.first + k ≤ r.last → {most : ℕ} {lent lent' : Lent} (way way' : List ℕ)
-        → 6 * r.steps ≤ length lent.places.now → most ≤ length way → most ≤ length lent.literals.now → Kept lent lent'
-        → length way' ≡ length way → {s' : Session} {M' : Meaning} (a : Answer)
+    pub step_here : {most : ℕ} {lent lent' : Lent} (way way' : List ℕ) → 6 * r.steps ≤ length lent.places.now → most ≤ length way
+        → most ≤ length lent.literals.now → Kept lent lent' → length way' ≡ length way → {s' : Session} {M' : Meaning} (a : Answer)
         → ((S : State) → Shows s S
         → Searched p (record { depth = r.first + k; rounds = r.rounds; steps = r.steps })
         (suffice most r.steps (length lent'.places.now) (length way') (length lent'.literals.now)) S M s' M' (Ok a))
         → Step p r k h.state M s' M' a
-    step_here admits within {most} {lent} {lent'} way way' places bytes literals kept same a l =
-        let low = admits.first in
-        let high = admits.last in
+    step_here {most} {lent} {lent'} way way' places bytes literals kept same a l =
         let kept_places = kept.places in
         let kept_literals = kept.literals in
         stepped (suffice most r.steps (length lent'.places.now) (length way') (length lent'.literals.now))
         (enough most r.steps (length lent'.places.now) (length way') (length lent'.literals.now) (omega (arith, places, kept_places))
-        (omega (arith, bytes, same)) (omega (arith, literals, kept_literals))) (omega (arith, low)) (omega (arith, within, high)) admits.rounds
-        admits.steps a (l (begun h.state) h.shows)
+        (omega (arith, bytes, same)) (omega (arith, literals, kept_literals))) a (l (begun h.state) h.shows)
 
     module _ {s' : Session} {M' : Meaning} {a : Answer} (w : Step p r k h.state M s' M' a) where
       abbrev told' : List Told

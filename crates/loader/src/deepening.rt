@@ -5,9 +5,9 @@ ghost use Rattle.loader.specs.Requests.{Admits};
 ghost use Rattle.loader.specs.Sessions.{Put};
 ghost use Rattle.loader.specs.Depths.{goes_on, Deepened};
 
-use boundary::answering::DepthAnswer;
 use crate::under_goals::Seeker;
 use answers::answer::Outcome;
+use boundary::answering::DepthAnswer;
 use chooser::Chooser;
 use rounds::search::{Lent, Limits};
 use sessions::session::Session;

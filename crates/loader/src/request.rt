@@ -3,7 +3,10 @@ ghost use Rattle.std.specs.Prelude.{◌≡◌, OnOk};
 ghost use Rattle.loader.specs.Requests.{Passed, admitted, request_admitted};
 
 use boundary::faults::LoadFault;
+use models::writing::MOST_BYTES;
+use replay::replay::MOST_STEPS;
 use sessions::faults::SessionFault;
+use sessions::limits::{MOST_DEPTH, MOST_ROUNDS};
 use verdict::check::check;
 
 // The depths that are searched, one after the other, and what each search may spend. `entries` are the chooser's.
@@ -19,21 +22,12 @@ pub struct Request {
 
 // How much was lent.
 #[derive(Clone, Copy)]
-pub(crate) struct Room {
-    pub(crate) way: usize,
-    pub(crate) literals: usize,
-    pub(crate) answers: usize,
-    pub(crate) model: usize,
+pub struct Room {
+    pub way: usize,
+    pub literals: usize,
+    pub answers: usize,
+    pub model: usize,
 }
-
-const MOST_DEPTH: usize = 64;
-
-const MOST_ROUNDS: usize = 65_535;
-
-const MOST_STEPS: usize = 4_096;
-
-// No model has more bytes.
-pub const MOST_MODEL: usize = 1_584;
 
 // Whether a chooser with so many variables at most is given what it needs to search.
 fn check_request(request: &Request, most: usize, room: Room) -> Result<(), SessionFault>
@@ -56,7 +50,7 @@ fn check_request(request: &Request, most: usize, room: Room) -> Result<(), Sessi
     if room.way < most || room.literals < most {
         return Err(SessionFault::SmallBuffers);
     }
-    if room.answers < last - first + 1 || room.model < MOST_MODEL {
+    if room.answers < last - first + 1 || room.model < MOST_BYTES {
         return Err(SessionFault::SmallOutput);
     }
     Ok(())

@@ -13,10 +13,10 @@ ghost use Rattle.boundary.specs.Texts.{Lined, Showed};
 
 use boundary::answering::DepthAnswer;
 use boundary::replaying::replay_model;
-use loader::request::Request;
-use loader::searching::{Found, search_learning, search_plain};
 use boundary::status::{Status, check_bytes, report};
 use boundary::text::{line_of, show_model};
+use loader::request::Request;
+use loader::searching::{Found, search_learning, search_plain};
 use std::alloc::Global;
 
 // Whether the bytes are a problem. Nothing is allocated.

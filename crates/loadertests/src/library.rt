@@ -1,20 +1,17 @@
 // The library's own answers, by its calls on a session.
 
+use crate::problems::REQUEST;
 use answers::answer::{Answer, Outcome};
 use chooser::Chooser;
 use held::places::Place;
 use judge::left::STEP_PLACES;
+use models::writing::MOST_BYTES;
 use problem::problem::Problem;
 use rounds::search::{Lent, Limits};
 use sessions::session::Session;
 use std::alloc::Global;
 use std::ops::Range;
-
-pub const ROUNDS: usize = 1_000;
-
-pub const STEPS: usize = 512;
-
-const MOST_MODEL: usize = 1_584;
+use std::test::Fail;
 
 // The answers at the depths from 1 on, up to the first other than NONE, and the bytes of a model.
 #[derive(Drop)]
@@ -27,7 +24,6 @@ pub struct Found {
 struct Library<'a> {
     heap: Global,
     problem: &'a Problem,
-    last: usize,
 }
 
 impl Library<'_> {
@@ -37,17 +33,18 @@ impl Library<'_> {
         chooser: &mut C,
         mut goals: Range<u8>,
         found: &mut Found,
-    ) -> anyhow::Result<()> {
+    ) -> Result<(), Fail> {
         let Some(goal) = goals.next() else {
             return self.depths(session, chooser, found);
         };
         match session.put(goal) {
             Ok(slip) => {
                 let searched = self.under(session, chooser, goals, found);
-                session.give_back(slip)?;
-                searched
+                let given_back = session.give_back(slip);
+                searched?;
+                Ok(given_back?)
             }
-            Err((fault, _blank)) => Err(fault.into()),
+            Err((fault, _blank)) => Err(Fail::from(fault)),
         }
     }
 
@@ -56,20 +53,20 @@ impl Library<'_> {
         session: &mut Session,
         chooser: &mut C,
         found: &mut Found,
-    ) -> anyhow::Result<()> {
+    ) -> Result<(), Fail> {
         let most = usize::from(C::MAX_VARIABLES);
         let mut way = vec![in self.heap; 0u8; most]?;
         let mut literals = vec![in self.heap; 0u16; most]?;
-        let mut places = vec![in self.heap; Place::BLANK; STEP_PLACES * STEPS]?;
+        let mut places = vec![in self.heap; Place::BLANK; STEP_PLACES * REQUEST.steps]?;
         let mut lent = Lent {
             places: &mut places,
             literals: &mut literals,
         };
-        for depth in 1..=self.last {
+        for depth in REQUEST.first..=REQUEST.last {
             let limits = Limits {
                 depth,
-                rounds: ROUNDS,
-                steps: STEPS,
+                rounds: REQUEST.rounds,
+                steps: REQUEST.steps,
             };
             let answer = session.search(self.problem, chooser, limits, &mut way, &mut lent)?;
             found.answers.push(answer)?;
@@ -83,21 +80,12 @@ impl Library<'_> {
     }
 }
 
-pub fn search<C: Chooser>(
-    heap: Global,
-    problem: &Problem,
-    chooser: &mut C,
-    last: usize,
-) -> anyhow::Result<Found> {
+pub fn search<C: Chooser>(heap: Global, problem: &Problem, chooser: &mut C) -> Result<Found, Fail> {
     let mut found = Found {
         answers: Vec::new(heap),
-        model: vec![in heap; 0u8; MOST_MODEL]?,
+        model: vec![in heap; 0u8; MOST_BYTES]?,
     };
-    let library = Library {
-        heap,
-        problem,
-        last,
-    };
+    let library = Library { heap, problem };
     let mut session = Session::new();
     session.begin(problem, chooser)?;
     library.under(

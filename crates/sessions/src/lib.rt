@@ -4,7 +4,7 @@
 mod beginning;
 pub mod faults;
 mod force;
-mod limits;
+pub mod limits;
 mod modelling;
 mod searching;
 mod seen;

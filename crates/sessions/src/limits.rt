@@ -9,9 +9,9 @@ use judge::left::STEP_PLACES;
 use replay::replay::MOST_STEPS;
 use rounds::search::{Lent, Limits};
 
-const MOST_DEPTH: usize = 64;
+pub const MOST_DEPTH: usize = 64;
 
-const MOST_ROUNDS: usize = 65_535;
+pub const MOST_ROUNDS: usize = 65_535;
 
 pub(crate) fn check_limits(limits: Limits) -> Result<(), SessionFault>
     ensures refusal { told result ≡ limits_refusal limits.depth limits.rounds limits.steps }

@@ -16,7 +16,7 @@ returns-then-not-goes_on g c =
     let fit = c.requires.admits.answers_fit in
     let test = c.loop-searched-test.true in
     let w =
-    step_here _ _ _ i.3 c.requires.admits (omega (arith, test, ordered)) c.args.way.now c.loop-searched.way c.requires.places c.requires.way c.requires.literals i.0 i.1
+    step_here _ _ _ i.3 c.args.way.now c.loop-searched.way c.requires.places c.requires.way c.requires.literals i.0 i.1
     c.in-Ok.answer c.in-Ok.ensures.searched in
     ended _ _ _ i.3 w (omega (arith, test, ordered)) (omega (arith, test, fit)) (sym c.goes_on.ensures ∙ search rules)
     (ap (λ d. slice_set c.loop-searched.answers c.loop-searched.searched d) c.of.ensures)
@@ -28,14 +28,13 @@ loop-searched-preserved g c =
     let fit = c.requires.admits.answers_fit in
     let test = c.loop-searched-test.true in
     let w =
-    step_here _ _ _ i.3 c.requires.admits (omega (arith, test, ordered)) c.args.way.now c.loop-searched.way c.requires.places c.requires.way c.requires.literals i.0 i.1
-    c.in-Ok.answer c.in-Ok.ensures.searched in
-    (
+    step_here _ _ _ i.3 c.args.way.now c.loop-searched.way c.requires.places c.requires.way c.requires.literals i.0 i.1
+    c.in-Ok.answer c.in-Ok.ensures.searched in (
       record { places = c.search.ensures.kept.places ∙ i.0.places; literals = c.search.ensures.kept.literals ∙ i.0.literals },
       search rules,
       search rules,
       past_more _ _ _ i.3 w (omega (arith, test, ordered)) (omega (arith, test, fit)) (sym c.goes_on.ensures ∙ search rules)
-      (ap (λ d. slice_set c.loop-searched.answers c.loop-searched.searched d) c.of.ensures),
+          (ap (λ d. slice_set c.loop-searched.answers c.loop-searched.searched d) c.of.ensures),
     )
 
 pub returns : goal.returns
