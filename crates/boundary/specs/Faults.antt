@@ -1,10 +1,8 @@
 -- The numbers of a fault: its own, that of the fault that is inside, and the place of the byte at fault. Assumes nothing.
 use Rattle.std.specs.Prelude.{ℕ}
+use Rattle.std.proofs.Math.Option.{get_or}
 use Rattle.syntax.specs.Faults.{number_of as number_of_reason}
-use Rattle.chooser.specs.Faults.{fault_number}
-use Rattle.sessions.specs.Faults.{number_of as number_of_refused}
-use Rattle.sessions.specs.declared.faults.SessionFault.{SessionFault}
-use Rattle.sessions.specs.declared.faults.SessionFault.TheVariants.{NotNew, TooFewVariables, NoSuchGoal, InForce, NotInForce, BadDepth, BadLimits, SmallBuffers, NotAsSeen, NoModel, SmallOutput}
+use Rattle.sessions.specs.Faults.{number_of as number_of_refused, inside_of as inside_of_refused}
 use Rattle.replay.specs.Numbers.{number_of as number_of_replay}
 use Rattle.replay.specs.declared.faults.ReplayFault.{ReplayFault}
 use Rattle.replay.specs.declared.faults.ReplayFault.TheVariants.{Steps, Places, AnswerLength, BadModel}
@@ -22,19 +20,6 @@ number_of (NotTold f) = number_of_text f
 number_of NoAnswer = 70
 number_of NoMemory = 71
 
-abbrev pub inside_session : SessionFault → ℕ
-inside_session NotNew = 0
-inside_session (TooFewVariables f) = fault_number f
-inside_session NoSuchGoal = 0
-inside_session InForce = 0
-inside_session NotInForce = 0
-inside_session BadDepth = 0
-inside_session BadLimits = 0
-inside_session SmallBuffers = 0
-inside_session NotAsSeen = 0
-inside_session NoModel = 0
-inside_session SmallOutput = 0
-
 abbrev pub inside_replay : ReplayFault → ℕ
 inside_replay Steps = 0
 inside_replay Places = 0
@@ -45,9 +30,10 @@ abbrev pub inside_text : TellFault → ℕ
 inside_text (NoModelToTell f) = number_of_reason f.reason
 inside_text NoRoom = 0
 
+-- 0 where nothing is inside
 abbrev pub inside_of : LoadFault → ℕ
 inside_of (BadProblem f) = 0
-inside_of (NotSearched f) = inside_session f
+inside_of (NotSearched f) = get_or (inside_of_refused f) 0
 inside_of (NotReplayed f) = inside_replay f
 inside_of (NotTold f) = inside_text f
 inside_of NoAnswer = 0
@@ -63,6 +49,7 @@ abbrev pub place_text : TellFault → ℕ
 place_text (NoModelToTell f) = f.place
 place_text NoRoom = 0
 
+-- 0 where no byte is at fault
 abbrev pub place_of : LoadFault → ℕ
 place_of (BadProblem f) = f.place
 place_of (NotSearched f) = 0
