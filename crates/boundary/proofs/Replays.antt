@@ -1,12 +1,13 @@
 -- A replay whose answer is the first bytes of a longer one, with memory for at most the most steps. Assumes nothing.
-use Rattle.std.proofs.Common.{◌≡◌, ℕ, ◌*◌, ◌<◌, ◌≤◌, List, ◌++◌, length, take, drop, Ok, refl, sym, ◌∙◌, subst, arith, length-append, length-drop, length-take}
+use Rattle.std.proofs.Common.{min, Err, ◌≡◌, ℕ, ◌*◌, ◌<◌, ◌≤◌, List, ◌++◌, length, take, drop, Ok, refl, sym, ◌∙◌, subst, arith, length-append, length-drop, length-take}
 use Rattle.std.proofs.Math.ListN.{get_or-append}
 use Rattle.std.proofs.lemmas.Grind.{common_steps}
 use Rattle.std.proofs.lemmas.Slice.{drop-append-drop}
 use Rattle.std.proofs.lemmas.Bool.Decides.{nat_tests}
 use Rattle.syntax.specs.Problems.{Problem as Meaning}
 use Rattle.replay.specs.Replays.{accepted, Replayed}
-use Rattle.boundary.specs.Replaying.{JudgedBy}
+use Rattle.replay.specs.declared.faults.ReplayFault.{ReplayFault}
+use Rattle.boundary.specs.Replaying.{goal_bytes, JudgedBy}
 
 module _ (p : Meaning) (model : List ℕ) (steps : ℕ) where
   -- beyond the most steps the memory does not matter
@@ -16,6 +17,12 @@ module _ (p : Meaning) (model : List ℕ) (steps : ℕ) where
   -- an answer has a byte for each goal
   pub answer_for_each : (places n : ℕ) (roots : List ℕ) → accepted p model steps places n ≡ Ok roots → n ≡ length p.goals
   answer_for_each places n roots e = grind (arith, nat_tests, common_steps)
+
+  pub refused_front : (before : List ℕ) (places room : ℕ) (f : ReplayFault) → (steps ≤ 4096 → places ≡ 6 * steps) → room ≡ min (length p.goals) (length before)
+      → accepted p model steps places (length (take room before)) ≡ Err f → accepted p model steps (6 * steps) (goal_bytes p before) ≡ Err f
+  refused_front before places room f enough front e =
+      let long : length (take room before) ≡ goal_bytes p before = grind (arith, nat_tests, length-take room before) in
+      subst (λ n. accepted p model steps (6 * steps) n ≡ Err f) long (sym (places_enough places (length (take room before)) enough) ∙ e)
 
   pub judged_front : (u : Unit {0}) (before part : List ℕ) (places room : ℕ) → (steps ≤ 4096 → places ≡ 6 * steps) → room ≤ length before
       → length part ≡ room → Replayed p model steps places (take room before) part (Ok u)

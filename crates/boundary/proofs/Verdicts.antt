@@ -11,7 +11,6 @@ use Rattle.problem.specs.declared.problem.Problem.{Problem}
 use Rattle.boundary.specs.declared.faults.LoadFault.{LoadFault}
 use Rattle.boundary.specs.declared.faults.LoadFault.TheVariants.{BadProblem, NotSearched, NotReplayed, NotTold, NoAnswer, NoMemory}
 use Rattle.boundary.specs.Loading.{LoadFailed}
-use Rattle.boundary.specs.Replaying.{JudgeFailed}
 use Rattle.boundary.specs.Texts.{ShowFailed}
 
 pub refused_by : (v : Result Meaning Fault) (f : Fault) → Err f ≡ checked v → v ≡ Err f
@@ -31,19 +30,10 @@ ok_of bs p e = ap is_ok e
 pub meant_of : (bs : List ℕ) (p : Problem) → verdict bs ≡ Ok (meant p) → meant p ≡ decoded bs
 meant_of bs p e = sym (ap problem_in e)
 
-module _ (bs : List ℕ) where
-  pub show_failed : (model before after : List ℕ) (f : LoadFault) → LoadFailed bs f → after ≡ before → ShowFailed bs model before after f
-  show_failed model before after (BadProblem f) h same = (h, same)
-  show_failed model before after (NotSearched f) h same = absurd h
-  show_failed model before after (NotReplayed f) h same = absurd h
-  show_failed model before after (NotTold f) h same = absurd h
-  show_failed model before after NoAnswer h same = absurd h
-  show_failed model before after NoMemory h same = (h, same)
-
-  pub judge_failed : (model : List ℕ) (steps : ℕ) (answer : List ℕ) (f : LoadFault) → LoadFailed bs f → JudgeFailed bs model steps answer f
-  judge_failed model steps answer (BadProblem f) h = h
-  judge_failed model steps answer (NotSearched f) h = absurd h
-  judge_failed model steps answer (NotReplayed f) h = absurd h
-  judge_failed model steps answer (NotTold f) h = absurd h
-  judge_failed model steps answer NoAnswer h = absurd h
-  judge_failed model steps answer NoMemory h = h
+pub show_failed : (bs model before after : List ℕ) (f : LoadFault) → LoadFailed bs f → after ≡ before → ShowFailed bs model before after f
+show_failed bs model before after (BadProblem f) h same = (h, same)
+show_failed bs model before after (NotSearched f) h same = absurd h
+show_failed bs model before after (NotReplayed f) h same = absurd h
+show_failed bs model before after (NotTold f) h same = absurd h
+show_failed bs model before after NoAnswer h same = absurd h
+show_failed bs model before after NoMemory h same = (h, same)
