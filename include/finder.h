@@ -5,7 +5,8 @@
    lent to two of them at once.
 
    Allocation. finder_check and finder_line allocate nothing. The others call malloc, realloc and free of the program that links the
-   library, and answer FINDER_NO_MEMORY where these have no memory. c/lent.h has the three over memory that the program lends.
+   library, and answer FINDER_NO_MEMORY where these have no memory. c/lent.h has the three over memory that the program lends (for
+   one thread). No call may be made from a signal handler.
 
    Lent memory. A call reads and writes what is lent inside the lengths that are passed, and nothing else. Memory that is written must
    overlap nothing else that the same call is lent. No pointer may be null, for zero elements too.
