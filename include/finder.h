@@ -8,6 +8,9 @@
    library, and answer FINDER_NO_MEMORY where these have no memory. c/lent.h has the three over memory that the program lends (for
    one thread). No call may be made from a signal handler.
 
+   Stack. Judging recurses as the goals do, a step at most at a time. Measured, not proved: 384 KiB suffice for the examples with 512
+   steps, and 3,000 KiB for the deepest recursions that 4,096 steps allow.
+
    Lent memory. A call reads and writes what is lent inside the lengths that are passed, and nothing else. Memory that is written must
    overlap nothing else that the same call is lent. No pointer may be null, for zero elements too.
 
