@@ -1,7 +1,7 @@
 // The finder for C: each function is one call of the library's `loader`, and include/finder.h declares it.
 #![tactic(auto)]
 
-ghost use Rattle.std.specs.Prelude.{◌≡◌, ℕ, length, Result};
+ghost use Rattle.std.specs.Prelude.{◌≡◌, ℕ, length, OnErr, Result};
 ghost use Rattle.verdict.specs.Verdict.{verdict, checked};
 ghost use Rattle.rows.specs.declared.store.TheConstants.{MOST_VARIABLES};
 ghost use Rattle.loader.specs.declared.searching.Found.{Found as Written};
@@ -73,7 +73,7 @@ pub extern "C" fn finder_replay(
     answer: &mut [u8],
     goals: &mut usize,
 ) -> Status
-    ensures { (r : Result ℕ Refused) × Reports r goals.old goals.new result × Judged problem.now model.now steps answer.old answer.new r }
+    ensures { (r : Result ℕ Refused) × Reports r goals.old goals.new result × Judged problem.now model.now steps answer.old answer.new r × OnErr r (answer.new ≡ answer.old) }
 {
     report(replay_model(heap, problem, model, steps, answer), goals)
 }
