@@ -1,4 +1,4 @@
-// The finder for C: each function is one call of the library's `loader`, and include/finder.h declares it.
+// The finder for C: each function is one call of `boundary` or `loader`, its clauses stated again, and include/finder.h declares it.
 #![tactic(auto)]
 
 ghost use Rattle.std.specs.Prelude.{◌≡◌, ℕ, length, OnErr, Result};
