@@ -3,7 +3,7 @@ ghost use Rattle.std.specs.Prelude.{◌≡◌};
 ghost use Rattle.cases.specs.Cases.{children_of, by_cases};
 
 use arrayvec::ArrayVec;
-use judge::decides::{Choice, Decides};
+use judge::decides::{Children, Choice, Decides};
 use unknowns::table::Case;
 
 // Decides each unknown that has a case, by its place in the table.
@@ -34,7 +34,7 @@ impl Decides for Cases<'_> {
         let case = (*self.cases.get(usize::from(unknown))?)?;
         Some(Choice {
             constructor: case.constructor,
-            children: children(&case),
+            children: Children::new(children(&case).as_slice()),
         })
     }
 }

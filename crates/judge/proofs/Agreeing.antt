@@ -11,7 +11,7 @@ use Rattle.held.specs.Standing.{no_place, hlength, Stands, Row, Env}
 use Rattle.held.specs.declared.places.Held.{Held as Code}
 use Rattle.held.specs.declared.places.Held.TheVariants.{Missing, Term as At, Unknown}
 use Rattle.held.specs.declared.places.Place.{Place}
-use Rattle.judge.specs.declared.left.Left.{Left}
+use Rattle.judge.specs.declared.left.Budget.{Budget}
 use Rattle.judge.specs.declared.answers.Head.{Head as CodeHead}
 use Rattle.judge.specs.declared.answers.Head.TheVariants.{Waits, Is}
 use Rattle.judge.specs.declared.answers.Verdict.{Verdict as CodeVerdict}
@@ -65,42 +65,42 @@ module _ (R : ℕ → Term → Type 0) (m : List Place) (top : ℕ) where
 stands_is : (R : ℕ → Term → Type 0) (m : List Place) (top : ℕ) (h : Held ℕ) (x y : Code) → x ≡ y → Stands R m top y h → Stands R m top x h
 stands_is R m top h x y e s = subst (λ (z : Code). Stands R m top z h) (sym e) s
 
-pub by : {x : Text} {l : Left} {a b : List ℕ} {r : Option CodeHead} {o q : Maybe (Head ℕ × ℕ)} → o ≡ q → Agrees x l a b r o → Agrees x l a b r q
+pub by : {x : Text} {l : Budget} {a b : List ℕ} {r : Option CodeHead} {o q : Maybe (Head ℕ × ℕ)} → o ≡ q → Agrees x l a b r o → Agrees x l a b r q
 by {x} {l} {a} {b} {r} e h = subst (λ (o : Maybe (Head ℕ × ℕ)). Agrees x l a b r o) e h
 
-pub by_verdict : {l : Left} {a b : List ℕ} {r : Option CodeVerdict} {o q : Maybe (Verdict ℕ × ℕ)} → o ≡ q → Concurs l a b r o → Concurs l a b r q
+pub by_verdict : {l : Budget} {a b : List ℕ} {r : Option CodeVerdict} {o q : Maybe (Verdict ℕ × ℕ)} → o ≡ q → Concurs l a b r o → Concurs l a b r q
 by_verdict {l} {a} {b} {r} e h = subst (λ (o : Maybe (Verdict ℕ × ℕ)). Concurs l a b r o) e h
 
 -- none, for want of steps
-pub lost : {x : Text} {l : Left} {a b : List ℕ} {r : Option CodeHead} {o : Maybe (Head ℕ × ℕ)} → r ≡ None → o ≡ none → Agrees x l a b r o
+pub lost : {x : Text} {l : Budget} {a b : List ℕ} {r : Option CodeHead} {o : Maybe (Head ℕ × ℕ)} → r ≡ None → o ≡ none → Agrees x l a b r o
 lost {x} {l} {a} {b} {r} {o} e q = subst (λ (s : Option CodeHead). Agrees x l a b s o) (sym e) (record { means = q })
 
-pub lost_verdict : {l : Left} {a b : List ℕ} {r : Option CodeVerdict} {o : Maybe (Verdict ℕ × ℕ)} → r ≡ None → o ≡ none → Concurs l a b r o
+pub lost_verdict : {l : Budget} {a b : List ℕ} {r : Option CodeVerdict} {o : Maybe (Verdict ℕ × ℕ)} → r ≡ None → o ≡ none → Concurs l a b r o
 lost_verdict {l} {a} {b} {r} {o} e q = subst (λ (s : Option CodeVerdict). Concurs l a b s o) (sym e) (record { means = q })
 
 -- an answer of which the case is known
-pub as_none : {x : Text} {l : Left} {a b : List ℕ} {r : Option CodeHead} {o : Maybe (Head ℕ × ℕ)} → r ≡ None → Agrees x l a b r o → o ≡ none
+pub as_none : {x : Text} {l : Budget} {a b : List ℕ} {r : Option CodeHead} {o : Maybe (Head ℕ × ℕ)} → r ≡ None → Agrees x l a b r o → o ≡ none
 as_none {x} {l} {a} {b} {r} {o} e h = subst (λ (s : Option CodeHead). HeadAs x l a b s o) e h.means
 
-pub as_head : {x : Text} {l : Left} {a b : List ℕ} {r q : CodeHead} {o : Maybe (Head ℕ × ℕ)} → r ≡ q → Agrees x l a b (Some r) o → HeadAs x l a b (Some q) o
+pub as_head : {x : Text} {l : Budget} {a b : List ℕ} {r q : CodeHead} {o : Maybe (Head ℕ × ℕ)} → r ≡ q → Agrees x l a b (Some r) o → HeadAs x l a b (Some q) o
 as_head {x} {l} {a} {b} {r} {q} {o} e h = subst (λ (s : CodeHead). HeadAs x l a b (Some s) o) e h.means
 
-pub as_verdict : {l : Left} {a b : List ℕ} {r q : CodeVerdict} {o : Maybe (Verdict ℕ × ℕ)} → r ≡ q → Concurs l a b (Some r) o → VerdictAs l a b (Some q) o
+pub as_verdict : {l : Budget} {a b : List ℕ} {r q : CodeVerdict} {o : Maybe (Verdict ℕ × ℕ)} → r ≡ q → Concurs l a b (Some r) o → VerdictAs l a b (Some q) o
 as_verdict {l} {a} {b} {r} {q} {o} e h = subst (λ (s : CodeVerdict). VerdictAs l a b (Some s) o) e h.means
 
 -- the right side of a comparing whose left side is at hand: it is lost, or the left side waits
-pub lost_right : {x : Text} {l : Left} {a b : List ℕ} {o : Maybe (Head ℕ × ℕ)} (A : Asks ℕ) (k : Held ℕ) (r : CodeHead) → Agrees x l a b (Some r) o
+pub lost_right : {x : Text} {l : Budget} {a b : List ℕ} {o : Maybe (Head ℕ × ℕ)} (A : Asks ℕ) (k : Held ℕ) (r : CodeHead) → Agrees x l a b (Some r) o
     → A.head k l.steps ≡ none → go_on (after_left A k) o ≡ none
 lost_right A k (Waits u) h q = ap (go_on (after_left A k)) h.means ∙ ap (go_on (λ c. give (wait u))) q
 lost_right A k (Is i c n) h q = ap (go_on (after_left A k)) h.means.2 ∙ ap (go_on (after_right A c h.means.0 h.means.1)) q
 
-pub still_waits : {x : Text} {l : Left} {a b : List ℕ} {o : Maybe (Head ℕ × ℕ)} (u : ℕ) (r : CodeHead) → Agrees x l a b (Some r) o
+pub still_waits : {x : Text} {l : Budget} {a b : List ℕ} {o : Maybe (Head ℕ × ℕ)} (u : ℕ) (r : CodeHead) → Agrees x l a b (Some r) o
     → go_on (λ c. give (wait u)) o ≡ some (wait u, l.steps)
 still_waits u (Waits v) h = ap (go_on (λ c. give (wait u))) h.means
 still_waits u (Is i c n) h = ap (go_on (λ c. give (wait u))) h.means.2
 
 -- an explanation before that of the answer
-pub agrees_join : {x : Text} {l : Left} {a b c E : List ℕ} (r : Option CodeHead) {o : Maybe (Head ℕ × ℕ)} → Adds a b E
+pub agrees_join : {x : Text} {l : Budget} {a b c E : List ℕ} (r : Option CodeHead) {o : Maybe (Head ℕ × ℕ)} → Adds a b E
     → Agrees x l b c r o → Agrees x l a c r (go_on (λ h. give (join E h)) o)
 agrees_join {x} {l} {a} {b} {c} {E} None s h = record { means = ap (go_on (λ h. give (join E h))) h.means }
 agrees_join {x} {l} {a} {b} {c} {E} (Some (Waits u)) s h = record { means = ap (go_on (λ h. give (join E h))) h.means }
@@ -108,7 +108,7 @@ agrees_join {x} {l} {a} {b} {c} {E} (Some (Is i k n)) s h = record {
   means = (h.means.0, E ++ h.means.1, ap (go_on (λ h. give (join E h))) h.means.2, h.means.3, h.means.4, adds_append s h.means.5);
 }
 
-pub concurs_join : {l : Left} {a b c E : List ℕ} (r : Option CodeVerdict) {o : Maybe (Verdict ℕ × ℕ)} → Adds a b E
+pub concurs_join : {l : Budget} {a b c E : List ℕ} (r : Option CodeVerdict) {o : Maybe (Verdict ℕ × ℕ)} → Adds a b E
     → Concurs l b c r o → Concurs l a c r (go_on (λ v. give (join_verdict E v)) o)
 concurs_join {l} {a} {b} {c} {E} None s h = record { means = ap (go_on (λ v. give (join_verdict E v))) h.means }
 concurs_join {l} {a} {b} {c} {E} (Some (Wait u)) s h = record { means = ap (go_on (λ v. give (join_verdict E v))) h.means }
@@ -132,7 +132,7 @@ pub not_false : {o : Maybe (Head ℕ × ℕ)} {c s : ℕ} {xs : Helds ℕ} {E : 
 not_false {c = zero} e other = absurd (other (ap outcome e))
 not_false {c = suc c} e other = omega arith
 
-pub false_head : {x : Text} {l : Left} {a b : List ℕ} {o : Maybe (Head ℕ × ℕ)} (r : CodeHead) → Agrees x l a b (Some r) o → outcome o ≡ False
+pub false_head : {x : Text} {l : Budget} {a b : List ℕ} {o : Maybe (Head ℕ × ℕ)} (r : CodeHead) → Agrees x l a b (Some r) o → outcome o ≡ False
     → (xs : Helds ℕ) × (E : List ℕ) × (o ≡ some (is 0 xs E, l.steps)) × Adds a b E
 false_head (Waits u) h f = let z : Waiting u ≡ False = sym (ap outcome h.means) ∙ f in absurd (cc)
 false_head (Is i zero n) h f = (h.means.0, h.means.1, h.means.2, h.means.5)
@@ -144,7 +144,7 @@ pub and_left_true : (right : Judging (Head ℕ)) (c s : ℕ) (xs : Helds ℕ) (E
 and_left_true right zero s xs E z = absurd (omega arith)
 and_left_true right (suc c) s xs E z = refl
 
-pub lost_and : {x : Text} {l : Left} {a b : List ℕ} {o : Maybe (Head ℕ × ℕ)} (right : Judging (Head ℕ)) (r : CodeHead) → Agrees x l a b (Some r) o
+pub lost_and : {x : Text} {l : Budget} {a b : List ℕ} {o : Maybe (Head ℕ × ℕ)} (right : Judging (Head ℕ)) (r : CodeHead) → Agrees x l a b (Some r) o
     → outcome o ≢ False → right l.steps ≡ none → go_on (and_right right) o ≡ none
 lost_and right (Waits u) h other q = ap (go_on (and_right right)) h.means ∙ ap (go_on (λ r. give (and_waits u r))) q
 lost_and {l = l} right (Is i c n) h other q =
@@ -158,7 +158,7 @@ module _ (R : ℕ → Term → Type 0) (A : Asks ℕ) (m : List Place) (top : �
   pairs_none i j count s (x h∷ xs) h[] stop le long rx ry = refl
   pairs_none i j count s (x h∷ xs) (y h∷ ys) stop le long rx ry = absurd (stop (omega arith) (omega arith) (omega arith))
 
-  pub pairs_more : (i j count s : ℕ) (xs ys : Helds ℕ) (l : Left) (a b : List ℕ) (r : Option CodeVerdict) (v w : Code)
+  pub pairs_more : (i j count s : ℕ) (xs ys : Helds ℕ) (l : Budget) (a b : List ℕ) (r : Option CodeVerdict) (v w : Code)
       → v ≡ (get_or m i no_place).held → w ≡ (get_or m j no_place).held → 0 < count
       → count ≡ min (hlength xs) (hlength ys) → Row R m top i xs → Row R m top j ys
       → ((h k : Held ℕ) (hs ks : Helds ℕ) → Stands R m top v h → Stands R m top w k

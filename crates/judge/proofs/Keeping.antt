@@ -5,10 +5,10 @@ use Rattle.judging.specs.Held.{Held, Helds}
 use Rattle.held.specs.Standing.{Stands, Env, Row}
 use Rattle.held.specs.declared.places.Held.{Held as Code}
 use Rattle.held.proofs.Standing.{stands_grows, binds_grows, row_grows}
-use Rattle.judge.specs.declared.left.Left.{Left}
+use Rattle.judge.specs.declared.left.Budget.{Budget}
 use Rattle.judge.specs.Means.{Kept}
 
-module _ (R : ℕ → Term → Type 0) {spare : ℕ} {a b : Left} (k : Kept spare a b) where
+module _ (R : ℕ → Term → Type 0) {spare : ℕ} {a b : Budget} (k : Kept spare a b) where
   pub stands_kept : (x : Code) (h : Held ℕ) → Stands R a.memory.places.now a.memory.top x h → Stands R b.memory.places.now b.memory.top x h
   stands_kept = stands_grows R a.memory.places.now b.memory.places.now a.memory.top b.memory.top k.top k.same
 

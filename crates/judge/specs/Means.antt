@@ -11,7 +11,7 @@ use Rattle.held.specs.Reading.{Text, Reads}
 use Rattle.held.specs.Standing.{hlength, Stands, Row, Env, Same}
 use Rattle.held.specs.declared.places.Held.{Held as Code}
 use Rattle.judge.specs.Texts.{ReadsAll, tlength}
-use Rattle.judge.specs.declared.left.Left.{Left}
+use Rattle.judge.specs.declared.left.Budget.{Budget}
 use Rattle.judge.specs.declared.answers.Head.{Head as CodeHead}
 use Rattle.judge.specs.declared.answers.Head.TheVariants.{Waits, Is}
 use Rattle.judge.specs.declared.answers.Verdict.{Verdict as CodeVerdict}
@@ -22,23 +22,23 @@ pub record Explains (w : List ℕ) (E : List ℕ) : Type 0 where
   pub has : (u : ℕ) → u < 512 → contains w u ≡ member E u
 
 -- A head, by cases on the code's answer: its arguments stand in a row, and its explanation was put into the set a, which is then b.
-abbrev pub HeadAs : Text → Left → List ℕ → List ℕ → Option CodeHead → Maybe (Head ℕ × ℕ) → Type 0
+abbrev pub HeadAs : Text → Budget → List ℕ → List ℕ → Option CodeHead → Maybe (Head ℕ × ℕ) → Type 0
 HeadAs x l a b None o = o ≡ none
 HeadAs x l a b (Some (Waits u)) o = o ≡ some (waits u, l.steps)
 HeadAs x l a b (Some (Is i c n)) o =
     (xs : Helds ℕ) × (E : List ℕ) × (o ≡ some (is c xs E, l.steps)) × (n ≡ hlength xs) × Row (Reads x) l.memory.places.now l.memory.top i xs × Adds a b E
 
-pub record Agrees (x : Text) (l : Left) (a b : List ℕ) (r : Option CodeHead) (o : Maybe (Head ℕ × ℕ)) : Type 0 where
+pub record Agrees (x : Text) (l : Budget) (a b : List ℕ) (r : Option CodeHead) (o : Maybe (Head ℕ × ℕ)) : Type 0 where
   pub means : HeadAs x l a b r o
 
 -- a verdict, likewise
-abbrev pub VerdictAs : Left → List ℕ → List ℕ → Option CodeVerdict → Maybe (Verdict ℕ × ℕ) → Type 0
+abbrev pub VerdictAs : Budget → List ℕ → List ℕ → Option CodeVerdict → Maybe (Verdict ℕ × ℕ) → Type 0
 VerdictAs l a b None o = o ≡ none
 VerdictAs l a b (Some (Wait u)) o = o ≡ some (wait u, l.steps)
 VerdictAs l a b (Some SameV) o = (E : List ℕ) × (o ≡ some (same E, l.steps)) × Adds a b E
 VerdictAs l a b (Some Differ) o = (E : List ℕ) × (o ≡ some (differ E, l.steps)) × Adds a b E
 
-pub record Concurs (l : Left) (a b : List ℕ) (r : Option CodeVerdict) (o : Maybe (Verdict ℕ × ℕ)) : Type 0 where
+pub record Concurs (l : Budget) (a b : List ℕ) (r : Option CodeVerdict) (o : Maybe (Verdict ℕ × ℕ)) : Type 0 where
   pub means : VerdictAs l a b r o
 
 -- at most six arguments
@@ -48,12 +48,12 @@ Few (Some (Waits u)) = Unit {0}
 Few (Some (Is i c n)) = n ≤ 6
 
 -- the places suffice for six at each step left, and for `spare` more
-abbrev pub HasRoom : ℕ → Left → Type 0
+abbrev pub HasRoom : ℕ → Budget → Type 0
 HasRoom spare l = l.memory.top + 6 * l.steps + spare ≤ length l.memory.places.now
 
 -- The steps fall, the places in use grow, there stays room for six at each step left (and for `spare` more), and what stood
 -- in them stands.
-pub record Kept (spare : ℕ) (a b : Left) : Type 0 where
+pub record Kept (spare : ℕ) (a b : Budget) : Type 0 where
   pub steps : b.steps ≤ a.steps
   pub room : b.memory.top + 6 * b.steps ≤ a.memory.top + 6 * a.steps + spare
   pub long : length b.memory.places.now ≡ length a.memory.places.now
@@ -62,7 +62,7 @@ pub record Kept (spare : ℕ) (a b : Left) : Type 0 where
 
 -- What each call gives, for every depth that the steps left do not pass: K are the unknowns, l is what is left at the start,
 -- and o at the end; the explanation went into the set a, which is then b.
-module _ (x : Text) (K : Unknowns ℕ) (l : Left) (a : List ℕ) (o : Left) (b : List ℕ) where
+module _ (x : Text) (K : Unknowns ℕ) (l : Budget) (a : List ℕ) (o : Budget) (b : List ℕ) where
   abbrev pub Heads : Code → Option CodeHead → Type 0
   Heads at r =
       (d : ℕ) (h : Held ℕ) → l.steps ≤ d → Stands (Reads x) l.memory.places.now l.memory.top at h → Agrees x o a b r ((judges x.problem K d).head h l.steps)

@@ -3,7 +3,7 @@ ghost use Rattle.std.specs.Prelude.{◌≡◌, ℕ, List, Some, true, false, ◌
 ghost use Rattle.std.proofs.Math.Option.{Option as Maybe};
 ghost use Rattle.judging.specs.Judging.{Head as HeadOf};
 ghost use Rattle.held.specs.Reading.{Text};
-ghost use Rattle.judge.specs.declared.left.Left.{Left as Rest};
+ghost use Rattle.judge.specs.declared.left.Budget.{Budget};
 ghost use Rattle.judge.specs.declared.verdicts.Judgement.TheVariants.{False};
 ghost use Rattle.judge.specs.Means.{Agrees};
 ghost use Rattle.judge.specs.Outcomes.{outcome};
@@ -41,8 +41,8 @@ impl Head {
 
     // Whether it is false: constructor 0 of Bool is, and any other counts as true.
     pub fn is_false(self) -> bool
-        ensures yes { result ≡ true → (x : Text) (l : Rest) (e f : List ℕ) (o : Maybe (HeadOf ℕ × ℕ)) → Agrees x l e f (Some self) o → outcome o ≡ False }
-        ensures no { result ≡ false → (x : Text) (l : Rest) (e f : List ℕ) (o : Maybe (HeadOf ℕ × ℕ)) → Agrees x l e f (Some self) o → outcome o ≢ False }
+        ensures yes { result ≡ true → (x : Text) (l : Budget) (e f : List ℕ) (o : Maybe (HeadOf ℕ × ℕ)) → Agrees x l e f (Some self) o → outcome o ≡ False }
+        ensures no { result ≡ false → (x : Text) (l : Budget) (e f : List ℕ) (o : Maybe (HeadOf ℕ × ℕ)) → Agrees x l e f (Some self) o → outcome o ≢ False }
     {
         matches!(self, Head::Is { constructor: 0, .. })
     }

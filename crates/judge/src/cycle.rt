@@ -5,7 +5,7 @@ ghost use Rattle.judge.specs.Means.{Heads, TermsHeads, CasesHeads, AndsHeads, Co
 use crate::answers::{Head, Verdict};
 use crate::decides::Decides;
 use crate::judge::Judge;
-use crate::left::Left;
+use crate::left::Budget;
 use crate::outcomes::{and_true, and_waits, negate, past_same, past_wait, truth};
 use held::explanation::Explanation;
 use held::links::Link;
@@ -15,7 +15,7 @@ use problem::view::View;
 impl<D: Decides> Judge<'_, D> {
     // The head of a held term, for one step.
     #[cycle(judging)]
-    pub fn head(&self, left: &mut Left, because: &mut Explanation, at: Held) -> Option<Head>
+    pub fn head(&self, left: &mut Budget, because: &mut Explanation, at: Held) -> Option<Head>
         requires { HasRoom 0 left.old }
         ensures kept { Kept 0 left.old left.new }
         ensures few { Few result }
@@ -37,7 +37,7 @@ impl<D: Decides> Judge<'_, D> {
     #[cycle(judging)]
     fn head_of_term(
         &self,
-        left: &mut Left,
+        left: &mut Budget,
         because: &mut Explanation,
         place: usize,
         env: Link,
@@ -95,7 +95,7 @@ impl<D: Decides> Judge<'_, D> {
     #[cycle(judging)]
     fn head_of_case(
         &self,
-        left: &mut Left,
+        left: &mut Budget,
         because: &mut Explanation,
         ty: u8,
         subject: usize,
@@ -128,7 +128,7 @@ impl<D: Decides> Judge<'_, D> {
     #[cycle(judging)]
     fn head_of_and(
         &self,
-        left: &mut Left,
+        left: &mut Budget,
         because: &mut Explanation,
         a: usize,
         b: usize,
@@ -158,7 +158,7 @@ impl<D: Decides> Judge<'_, D> {
     #[cycle(judging)]
     pub fn compare(
         &self,
-        left: &mut Left,
+        left: &mut Budget,
         because: &mut Explanation,
         a: Held,
         b: Held,
@@ -179,7 +179,7 @@ impl<D: Decides> Judge<'_, D> {
     #[cycle(judging)]
     fn compared(
         &self,
-        left: &mut Left,
+        left: &mut Budget,
         because: &mut Explanation,
         a: Held,
         b: Held,
@@ -220,7 +220,7 @@ impl<D: Decides> Judge<'_, D> {
     #[cycle(judging)]
     fn arguments(
         &self,
-        left: &mut Left,
+        left: &mut Budget,
         because: &mut Explanation,
         xs: usize,
         ys: usize,

@@ -10,7 +10,7 @@ ghost use Rattle.judge.specs.Outcomes.{outcome, byte_of, Explained};
 use crate::answers::Head;
 use crate::decides::Decides;
 use crate::judge::Judge;
-use crate::left::Left;
+use crate::left::Budget;
 use crate::verdicts::Judgement;
 use held::explanation::Explanation;
 use held::links::Link;
@@ -34,7 +34,7 @@ impl Judgement {
 
 impl<D: Decides> Judge<'_, D> {
     // Judges a goal with the steps and the memory that are left. The explanation of a true or a false one is put into `because`.
-    pub fn judge_within(&self, left: &mut Left, because: &mut Explanation, goal: usize) -> Judgement
+    pub fn judge_within(&self, left: &mut Budget, because: &mut Explanation, goal: usize) -> Judgement
         requires room { HasRoom 0 left.old }
         requires known { goal < length (text_of self.now.problem.now).problem.goals }
         ensures kept { Kept 0 left.old left.new }
@@ -70,7 +70,7 @@ impl<D: Decides> Judge<'_, D> {
         ensures judged { result ≡ outcome (judge (text_of self.now.problem.now).problem (D.unknowns self.now.decider.now) (goal_of (text_of self.now.problem.now).problem goal) steps) }
         ensures explained { Explained because.old.words because.new.words (judge (text_of self.now.problem.now).problem (D.unknowns self.now.decider.now) (goal_of (text_of self.now.problem.now).problem goal) steps) }
     {
-        let mut left = Left::new(Memory::new(places), steps);
+        let mut left = Budget::new(Memory::new(places), steps);
         self.judge_within(&mut left, because, goal)
     }
 }

@@ -16,7 +16,7 @@ ghost use Rattle.judge.specs.Means.{Agrees, Few, Kept, HasRoom};
 use crate::answers::Head;
 use crate::decides::Decides;
 use crate::judge::Judge;
-use crate::left::Left;
+use crate::left::Budget;
 use held::explanation::Explanation;
 use held::links::Link;
 use held::memory::Memory;
@@ -61,7 +61,7 @@ impl<D: Decides> Judge<'_, D> {
     // The head of a constructor's term: its arguments are held as a row.
     pub(crate) fn constructed(
         &self,
-        left: &mut Left,
+        left: &mut Budget,
         constructor: u8,
         arity: u8,
         arguments: usize,
@@ -83,7 +83,7 @@ impl<D: Decides> Judge<'_, D> {
     }
 
     // The head of an unknown: what is chosen for it, which explains it, or it waits.
-    pub fn decided(&self, left: &mut Left, because: &mut Explanation, unknown: u16) -> Head
+    pub fn decided(&self, left: &mut Budget, because: &mut Explanation, unknown: u16) -> Head
         requires { HasRoom 6 left.old }
         ensures kept { Kept 6 left.old left.new }
         ensures few { Few (Some result) }
@@ -93,12 +93,12 @@ impl<D: Decides> Judge<'_, D> {
             Some(choice) => {
                 because.add(unknown);
                 let start = left.memory.top;
-                let count = choice.children.len() as u8;
-                left.memory.hold_unknowns(choice.children.as_slice());
+                let children = choice.children.as_slice();
+                left.memory.hold_unknowns(children);
                 Head::Is {
                     start,
                     constructor: choice.constructor,
-                    count,
+                    count: children.len() as u8,
                 }
             }
             None => Head::Waits(unknown),

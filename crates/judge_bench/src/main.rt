@@ -7,7 +7,7 @@ use held::memory::Memory;
 use held::places::Place;
 use judge::decides::Decides;
 use judge::judge::Judge;
-use judge::left::{Left, STEP_PLACES};
+use judge::left::{Budget, STEP_PLACES};
 use judge::verdicts::Judgement;
 use model::deciding::read_model;
 use problem::take::take;
@@ -24,10 +24,10 @@ fn once<D: Decides>(judge: &Judge<'_, D>, places: &mut [Place]) -> Option<(Judge
     if judge.problem.goals() == 0 {
         return Some((Judgement::Out, MOST_STEPS - 1));
     }
-    let mut left = Left::new(Memory::new(places), MOST_STEPS);
+    let mut budget = Budget::new(Memory::new(places), MOST_STEPS);
     let mut because = Explanation::nothing();
-    let judged = judge.judge_within(&mut left, &mut because, 0);
-    Some((judged, left.steps))
+    let judged = judge.judge_within(&mut budget, &mut because, 0);
+    Some((judged, budget.left().steps))
 }
 
 fn measure<D: Decides>(

@@ -9,7 +9,7 @@ use crate::declares::Declares;
 use crate::model::Model;
 use crate::value_reading::{CONSTRUCTOR, ValueReader};
 use arrayvec::ArrayVec;
-use judge::decides::{Choice, Decides};
+use judge::decides::{Children, Choice, Decides};
 use syntax::faults::{Fault, Reason};
 use syntax::limits::{MOST_ARGUMENTS, MOST_BYTES, MOST_UNKNOWNS};
 
@@ -90,10 +90,10 @@ impl<P: Declares> Decides for Model<'_, P> {
             return None;
         };
         let types = self.problem.argument_types(*ty, *constructor);
-        let children = self.starts(types, place + 3);
+        let starts = self.starts(types, place + 3);
         Some(Choice {
             constructor: *constructor,
-            children,
+            children: Children::new(starts.as_slice()),
         })
     }
 }

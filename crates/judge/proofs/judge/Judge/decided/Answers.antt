@@ -14,8 +14,8 @@ returns-in-Some-clause-agrees g c x =
     let chosen = c.in-Some.ensures in
     let kids = K.kids u c.in-Some.choice.constructor in
     let now = c.hold_unknowns.new.self in
-    let all : c.as_slice.result.now ≡ kids = c.as_slice.ensures.value ∙ chosen.children in
-    let long : c.len-count.result ≡ length kids = c.len-count.ensures.value ∙ ap length chosen.children in
+    let all : c.as_slice-children.result.now ≡ kids = c.as_slice-children.ensures.numbers ∙ chosen.children in
+    let long : length c.as_slice-children.result.now ≡ length kids = ap length all in
     record {
       means = (
         frees kids,
