@@ -4,6 +4,7 @@ ghost use Rattle.judge.specs.Means.{Heads, TermsHeads, CasesHeads, AndsHeads, Co
 
 use crate::answers::{Head, Verdict};
 use crate::decides::Decides;
+use crate::held_terms::{decided, hold_branch, hold_terms};
 use crate::judge::Judge;
 use crate::left::Budget;
 use crate::outcomes::{and_true, and_waits, negate, past_same, past_wait, truth};
@@ -28,7 +29,7 @@ impl<D: Decides> Judge<'_, D> {
         left.steps -= 1;
         match at {
             Held::Missing => Some(Head::FALSE),
-            Held::Unknown(unknown) => Some(self.decided(left, because, unknown)),
+            Held::Unknown(unknown) => Some(decided(self.decider, left, because, unknown)),
             Held::Term { place, env } => self.head_of_term(left, because, place, env),
         }
     }
@@ -54,7 +55,7 @@ impl<D: Decides> Judge<'_, D> {
             }
             View::Unknown(number) => {
                 let unknown = self.decider.root(number);
-                Some(self.decided(left, because, unknown))
+                Some(decided(self.decider, left, because, unknown))
             }
             View::Constructor {
                 constructor,
@@ -68,7 +69,14 @@ impl<D: Decides> Judge<'_, D> {
                 arguments,
             } => {
                 let count = arity.min(6);
-                let env = self.hold_terms(&mut left.memory, arguments, count, env, Link::NONE);
+                let env = hold_terms(
+                    self.problem,
+                    &mut left.memory,
+                    arguments,
+                    count,
+                    env,
+                    Link::NONE,
+                );
                 let place = self.problem.body(function);
                 let body = Held::Term { place, env };
                 self.head(left, because, body)
@@ -117,7 +125,7 @@ impl<D: Decides> Judge<'_, D> {
                 count,
             } => {
                 let env = left.memory.bind(start, count, env);
-                let branch = self.hold_branch(ty, subject, constructor, env);
+                let branch = hold_branch(self.problem, ty, subject, constructor, env);
                 self.head(left, because, branch)
             }
             Head::Waits(unknown) => Some(Head::Waits(unknown)),

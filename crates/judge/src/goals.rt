@@ -34,7 +34,12 @@ impl Judgement {
 
 impl<D: Decides> Judge<'_, D> {
     // Judges a goal with the steps and the memory that are left. The explanation of a true or a false one is put into `because`.
-    pub fn judge_within(&self, left: &mut Budget, because: &mut Explanation, goal: usize) -> Judgement
+    pub fn judge_within(
+        &self,
+        left: &mut Budget,
+        because: &mut Explanation,
+        goal: usize,
+    ) -> Judgement
         requires room { HasRoom 0 left.old }
         requires known { goal < length (text_of self.now.problem.now).problem.goals }
         ensures kept { Kept 0 left.old left.new }

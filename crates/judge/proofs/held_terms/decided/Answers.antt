@@ -5,11 +5,11 @@ use Rattle.judging.specs.Judging.{of_unknown}
 use Rattle.held.specs.Reading.{Reads}
 use Rattle.held.specs.Standing.{Row}
 use Rattle.judge.proofs.Holding.{frees_length}
-use Rattle.judge.proofs.judge.Judge.decided.Goals as goal
+use Rattle.judge.proofs.held_terms.decided.Goals as goal
 
 pub returns-in-Some-clause-agrees : goal.returns-in-Some-clause-agrees
 returns-in-Some-clause-agrees g c x =
-    let K = g.D.Decides.unknowns c.args.self.now.decider.now in
+    let K = g.D.Decides.unknowns c.args.decider.now in
     let u = c.args.unknown in
     let chosen = c.in-Some.ensures in
     let kids = K.kids u c.in-Some.choice.constructor in

@@ -6,21 +6,21 @@ use Rattle.held.proofs.Standing.{same_trans}
 use Rattle.judge.specs.Texts.{text_of}
 use Rattle.judge.proofs.Texts.{rest_of}
 use Rattle.judge.proofs.Holding.{holding_none, holding_more, holding_all}
-use Rattle.judge.proofs.judge.Judge.hold_terms.Goals as goal
+use Rattle.judge.proofs.held_terms.hold_terms.Goals as goal
 
 pub loop-init : goal.loop-init
-loop-init g c = record {
+loop-init c = record {
   long = refl;
   top = omega arith;
   same = λ i h. refl;
   held = λ ts ρ long r b.
-      holding_none (text_of c.args.self.now.problem.now) c.args.memory.now.places.now c.args.memory.now.top c.args.place (c.args.count - 0) c.args.env c.args.onto ts ρ
+      holding_none (text_of c.args.problem.now) c.args.memory.now.places.now c.args.memory.now.top c.args.place (c.args.count - 0) c.args.env c.args.onto ts ρ
       (omega arith) r b;
 }
 
 pub loop-preserved : goal.loop-preserved
-loop-preserved g c =
-    let problem = c.args.self.now.problem.now in
+loop-preserved c =
+    let problem = c.args.problem.now in
     let inv = c.loop.invariant in
     let push = c.push-bound.ensures in
     let a = c.args.memory.now in
@@ -38,8 +38,8 @@ loop-preserved g c =
     }
 
 pub returns : goal.returns
-returns g c =
-    let x = text_of c.args.self.now.problem.now in
+returns c =
+    let x = text_of c.args.problem.now in
     let inv = c.loop.invariant in
     let m = c.loop.memory in
     record {

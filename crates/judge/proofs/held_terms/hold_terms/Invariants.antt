@@ -6,7 +6,7 @@ use Rattle.held.specs.Reading.{Text, Reads}
 use Rattle.held.specs.Standing.{Env, Same}
 use Rattle.judge.specs.Texts.{text_of, ReadsAll, tlength}
 use Rattle.judge.proofs.Holding.{Holding}
-use Rattle.judge.proofs.judge.Judge.hold_terms.Given as goal
+use Rattle.judge.proofs.held_terms.hold_terms.Given as goal
 
 pub record Held (x : Text) (a b : Memory) (place at count counter : ℕ) (env onto link : Option ℕ) : Type 0 where
   pub long : length b.places.now ≡ length a.places.now
@@ -16,5 +16,5 @@ pub record Held (x : Text) (a b : Memory) (place at count counter : ℕ) (env on
       → Holding x a.places.now b.places.now a.top b.top at (count - counter) env onto link ts ρ
 
 abbrev pub invariant-loop : goal.invariant-loop
-invariant-loop g l =
-    Held (text_of l.self.problem.now) l.fn.memory l.memory l.fn.place l.place l.count l.counter l.env l.fn.onto l.bound
+invariant-loop l =
+    Held (text_of l.problem) l.fn.memory l.memory l.fn.place l.place l.count l.counter l.env l.fn.onto l.bound
