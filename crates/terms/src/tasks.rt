@@ -24,6 +24,11 @@ pub enum Task {
     Branches { of: u8, next: u8, ty: u8, cut: u8 }, // the branches of a case, from `next` on
 }
 
+impl Task {
+    // What stands in a slice of tasks before they are put there.
+    pub const BLANK: Task = Task::Two { ty: 0, cut: 0 };
+}
+
 // The first term of a task, and the rest of the task.
 #[derive(Clone, Copy)]
 pub struct Opened {
