@@ -103,7 +103,7 @@ is_read : (bs : List ℕ) (p : Problem) → verdict bs ≡ Ok p → read_from bs
 unfolding read_from
 is_read bs p e = ap problem_in e
 
-pub filled : (bs : List ℕ) (w : Workspace) (n : Counts) → Accepted bs w n
+pub filled : (bs : List ℕ) (w : Workspace) (n : Counts) → Accepted bs w.tables.types w.tables.functions w.tables.unknowns w.tables.goals w.least n
     → Filled bs (take n.types w.tables.types) (take n.functions w.tables.functions) (take n.unknowns w.tables.unknowns) (take n.goals w.tables.goals) (take n.types w.least)
 filled bs w n a =
     let r = a.raw in
@@ -150,7 +150,7 @@ declared_same s bs types functions unknowns goals least h ts fs us =
     ∙ ap (λ x. record { types = (sig_from bs).types; functions = (sig_from bs).functions; unknowns = x }) (us ∙ h.of_unknowns)
 
 -- copies of the fronts of examined tables
-pub holds_fronts : (bs : List ℕ) (w : Workspace) (n : Counts) (t : Tables) → Accepted bs w n → Fronts w n t → Holds bs t
+pub holds_fronts : (bs : List ℕ) (w : Workspace) (n : Counts) (t : Tables) → Accepted bs w.tables.types w.tables.functions w.tables.unknowns w.tables.goals w.least n → Fronts w n t → Holds bs t
 holds_fronts bs w n t a f =
     let h = filled bs w n a in
     let h₁ = subst (λ x. Filled bs x (take n.functions w.tables.functions) (take n.unknowns w.tables.unknowns) (take n.goals w.tables.goals) (take n.types w.least)) (sym f.of_types) h in

@@ -9,11 +9,11 @@ use crate::record_tables::Tables;
 use depths::needs::fill_needs;
 use ends::ends::fill_ends;
 use std::alloc::{AllocError, Global};
-use syntax::limits::MOST_CONSTRUCTORS;
+use syntax::limits::{MOST_BYTES, MOST_CONSTRUCTORS};
 use syntax::tables::Signature;
-use terms::tasks::Stack;
+use terms::tasks::Task;
 use verdict::examine::examine;
-use verdict::workspace::{MOST_TASKS, Workspace};
+use verdict::workspace::Workspace;
 
 // What each constructor needs.
 pub fn needs_table(
@@ -43,8 +43,16 @@ pub fn examined(heap: Global, bytes: &[u8]) -> Result<Option<Tables>, AllocError
     ensures { IfOk result (λ o. MatchOption o (is_ok (verdict bytes.now) ≡ false) (λ t. Holds bytes.now t)) }
 {
     let mut work = Workspace::EMPTY;
-    let mut tasks: Stack<MOST_TASKS> = Stack::new();
-    let Ok(counts) = examine(bytes, &mut work, &mut tasks) else {
+    let mut tasks = vec![in heap; Task::BLANK; bytes.len().min(MOST_BYTES) + 1]?;
+    let Ok(counts) = examine(
+        bytes,
+        &mut work.tables.types,
+        &mut work.tables.functions,
+        &mut work.tables.unknowns,
+        &mut work.tables.goals,
+        &mut work.least,
+        tasks.as_mut_slice(),
+    ) else {
         return Ok(None);
     };
     let tables = Tables::copied(heap, &work, counts)?;

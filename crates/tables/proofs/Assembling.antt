@@ -47,12 +47,6 @@ each_of_front P table n h k d low =
     let less : k < n = omega (arith, length-take n table) in
     subst P (sym (get_or-take n table k d less)) (h k d less)
 
--- the same section, its limit by an equal number
-pub limited : {A : Type 0} {one : ℕ → List ℕ → ℕ → Result (Read A) Fault} {w : A → List ℕ} {a b m n : ℕ} {before after : Reader} {xs : List A} → m ≡ n
-    → Section one w a b m before after xs → Section one w a b n before after xs
-limited {one = one} {a = a} {b} {before = before} e s =
-    record { same = s.same; is = ap (λ k. many one a b k (ahead_of before) before.at) (sym e) ∙ s.is; front = s.front }
-
 module _ (bs : List ℕ) (short : length bs ≤ 16384) (r₀ : Reader) (whole : r₀.bytes.now ≡ bs) (start : r₀.at ≡ 0) where
   all_ahead : ahead_of r₀ ≡ bs
   all_ahead = ap (λ k. drop k r₀.bytes.now) start ∙ whole

@@ -1,5 +1,5 @@
 // Reads a problem's records into tables.
-ghost use Rattle.std.specs.Prelude.{◌≡◌, Err, MatchResult};
+ghost use Rattle.std.specs.Prelude.{◌≡◌, ◌≤◌, length, Err, MatchResult};
 ghost use Rattle.records.specs.Raw.{Raw};
 ghost use Rattle.records.specs.Reading.{records};
 ghost use Rattle.tables.specs.Tabled.{Tabled};
@@ -42,26 +42,36 @@ pub struct Counts {
 }
 
 // Fills the tables with what the records hold. After a refusal nothing is promised of the tables.
-pub fn read_records(bytes: &[u8], tables: &mut WorkTables) -> Result<Counts, Fault>
-    ensures reads { MatchResult result (λ n. ((raw : Raw) × Tabled bytes.now raw tables.new.types tables.new.functions tables.new.unknowns tables.new.goals n)) (λ e. records bytes.now ≡ Err e) }
+pub fn read_records(
+    bytes: &[u8],
+    types: &mut [Datatype],
+    functions: &mut [Callable],
+    unknowns: &mut [u8],
+    goals: &mut [Span],
+) -> Result<Counts, Fault>
+    requires types { 32 ≤ length types.old }
+    requires functions { 64 ≤ length functions.old }
+    requires unknowns { 16 ≤ length unknowns.old }
+    requires goals { 32 ≤ length goals.old }
+    ensures reads { MatchResult result (λ n. ((raw : Raw) × Tabled bytes.now raw types.new functions.new unknowns.new goals.new n)) (λ e. records bytes.now ≡ Err e) }
     ensures exact { ReadingExact }
 {
     if bytes.len() > MOST_BYTES {
         return Err(Reason::TooLong.at(MOST_BYTES));
     }
     let mut reader = Reader::new(bytes);
-    tables.types[0] = BOOL;
-    let types = fill(&mut reader, &mut tables.types[1..], datatype)?;
-    let functions = fill(&mut reader, &mut tables.functions, callable)?;
+    types[0] = BOOL;
+    let type_count = fill(&mut reader, &mut types[1..], MOST_TYPES - 1, datatype)?;
+    let function_count = fill(&mut reader, functions, MOST_FUNCTIONS, callable)?;
     let start = reader.place();
-    let unknowns = fill(&mut reader, &mut tables.unknowns, unknown)?;
-    let goals = fill(&mut reader, &mut tables.goals, goal)?;
+    let unknown_count = fill(&mut reader, unknowns, MOST_UNKNOWNS, unknown)?;
+    let goal_count = fill(&mut reader, goals, MOST_GOALS, goal)?;
     reader.end()?;
     Ok(Counts {
-        types: 1 + types,
-        functions,
-        unknowns,
-        goals,
+        types: 1 + type_count,
+        functions: function_count,
+        unknowns: unknown_count,
+        goals: goal_count,
         start,
     })
 }

@@ -77,19 +77,21 @@ pub(crate) fn goal(item: GoalRecord) -> Span
     }
 }
 
-// Fills a table from the front with the records of one kind, of which there may be as many as the table has room for.
+// Fills a table from the front with the records of one kind, of which there may be so many; the table has room for them.
 // How many there are.
 // Kept as it is: a count beside the table, which is lent memory; the reader says how long the loop goes on.
 pub(crate) fn fill<'a, R: Record<'a>, T: Drop, F: Fn(R) -> T>(
     reader: &mut Reader<'a>,
     table: &mut [T],
+    most: usize,
     entry: F,
 ) -> Result<usize, Fault>
-    requires { (m : ℕ) (x : R) → R.IsAt m x → F.pre entry x }
-    ensures { MatchResult result (λ n. Filled (Section R.reading R.writing R.high R.low (length table.old) reader.old reader.new) (Entered (MadeOf R.IsAt R.meaning (F.post entry)) R.writing reader.old.at table.new n)) (λ e. many R.reading R.high R.low (length table.old) (ahead_of reader.old) reader.old.at ≡ Err e) }
+    requires room { most ≤ length table.old }
+    requires makes { (m : ℕ) (x : R) → R.IsAt m x → F.pre entry x }
+    ensures { MatchResult result (λ n. Filled (Section R.reading R.writing R.high R.low most reader.old reader.new) (Entered (MadeOf R.IsAt R.meaning (F.post entry)) R.writing reader.old.at table.new n)) (λ e. many R.reading R.high R.low most (ahead_of reader.old) reader.old.at ≡ Err e) }
 {
     let mut n = 0;
-    while let Some(item) = reader.next::<R>(table.len() - n)? {
+    while let Some(item) = reader.next::<R>(most - n)? {
         table[n] = entry(item);
         n += 1;
     }

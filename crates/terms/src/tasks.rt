@@ -1,9 +1,8 @@
 // What is still to be read of a term.
-ghost use Rattle.std.specs.Prelude.{◌≡◌, ◌<◌, [], ◌∷◌, length, Some};
+ghost use Rattle.std.specs.Prelude.{◌≡◌, ◌<◌, ◌≤◌, [], ◌∷◌, length, Some};
 ghost use Rattle.terms.specs.Tasks.{whole, put, NoneLeft};
 
 use reading::parts::Part;
-use std::marker::Model;
 
 // A term that is wanted, from this part of it on; `cut` of the variables are in scope.
 #[derive(Clone, Copy)]
@@ -23,6 +22,11 @@ pub enum Task {
     Parameters { of: u8, next: u8, cut: u8 }, // the arguments of a call, from `next` on
     Case { of: u8, ty: u8, cut: u8 }, // a subject of the type `of`, and all branches
     Branches { of: u8, next: u8, ty: u8, cut: u8 }, // the branches of a case, from `next` on
+}
+
+impl Task {
+    // What stands in a slice of tasks before they are put there.
+    pub const BLANK: Task = Task::Two { ty: 0, cut: 0 };
 }
 
 // The first term of a task, and the rest of the task.
@@ -56,49 +60,40 @@ impl Wanted {
     }
 }
 
-// A stack of at most N tasks.
-// Kept as it is: an array with a length beside it: the library's vector of fixed room (`arrayvec`) writes a blank over each task that
+// A stack of tasks in a slice that is lent, which holds as many as the slice has places.
+// Kept as it is: a slice with a length beside it: the library's vector of fixed room (`arrayvec`) writes a blank over each task that
 // is taken, and a check takes one for most bytes of a term. How much slower that is was not measured.
 #[derive(Drop)]
-pub struct Stack<const N: usize> {
-    tasks: [Task; N],
+pub struct Stack<'a> {
+    tasks: &'a mut [Task],
     len: usize,
+    ghost within: { len ≤ length tasks.now },
 }
 
-// Clauses see the tasks, the topmost first.
-impl<const N: usize> Model for Stack<N> {
-    ghost use Rattle.std.specs.Prelude.{List, reverse, take, ◌≤◌};
-    ghost use Rattle.terms.specs.declared.tasks.Task.{Task};
+impl<'a> Stack<'a> {
+    ghost use Rattle.terms.specs.Stacks.{on, room};
 
-    ghost Value = { List Task };
-
-    ghost view = { λ s. reverse (take s.len s.tasks) };
-
-    ghost invariant = { λ s. s.len ≤ N };
-}
-
-impl<const N: usize> Stack<N> {
-    pub fn new() -> Self
-        ensures { result ≡ [] }
+    pub fn new(tasks: &'a mut [Task]) -> Stack<'a>
+        ensures empty { on result ≡ [] }
+        ensures room { room result ≡ length tasks.old }
     {
-        Stack {
-            tasks: [Task::Two { ty: 0, cut: 0 }; N],
-            len: 0,
-        }
+        Stack { tasks, len: 0 }
     }
 
     // Takes all tasks away, and puts this one.
     pub fn restart(&mut self, task: Task)
-        requires { 0 < N }
-        ensures { self.new ≡ task ∷ [] }
+        requires { 0 < room self.old }
+        ensures is { on self.new ≡ task ∷ [] }
+        ensures room { room self.new ≡ room self.old }
     {
         self.len = 0;
         self.push(task);
     }
 
     pub fn push(&mut self, task: Task)
-        requires { length self.old < N }
-        ensures { self.new ≡ task ∷ self.old }
+        requires { length (on self.old) < room self.old }
+        ensures is { on self.new ≡ task ∷ on self.old }
+        ensures room { room self.new ≡ room self.old }
     {
         self.tasks[self.len] = task;
         self.len += 1;
@@ -106,8 +101,9 @@ impl<const N: usize> Stack<N> {
 
     // Puts a task on top, if there is one.
     pub fn put(&mut self, task: Option<Task>)
-        requires { length self.old < N }
-        ensures { self.new ≡ put task self.old }
+        requires { length (on self.old) < room self.old }
+        ensures is { on self.new ≡ put task (on self.old) }
+        ensures room { room self.new ≡ room self.old }
     {
         if let Some(task) = task {
             self.push(task);
@@ -116,8 +112,9 @@ impl<const N: usize> Stack<N> {
 
     // Takes the topmost task; none if there is none.
     pub fn pop(&mut self) -> Option<Task>
-        ensures taken { self.old ≡ put result self.new }
-        ensures last { NoneLeft result self.new }
+        ensures taken { on self.old ≡ put result (on self.new) }
+        ensures last { NoneLeft result (on self.new) }
+        ensures room { room self.new ≡ room self.old }
     {
         if self.len == 0 {
             return None;

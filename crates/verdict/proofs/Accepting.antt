@@ -1,14 +1,16 @@
 -- What was accepted encodes a lawful problem.
 use Rattle.std.proofs.Common.{◌≡◌, ℕ, List, subst}
-use Rattle.verdict.specs.declared.workspace.Workspace.{Workspace}
+use Rattle.syntax.specs.declared.tables.Datatype.{Datatype}
+use Rattle.syntax.specs.declared.tables.Callable.{Callable}
+use Rattle.syntax.specs.declared.tables.Span.{Span}
 use Rattle.tables.specs.declared.filling.Counts.{Counts}
 use Rattle.records.specs.Raw.{write, Within}
 use Rattle.verdict.specs.Examined.{Accepted}
 use Rattle.verdict.specs.Exact.{Encodes}
 use Rattle.verdict.proofs.Exact.{came, encoded}
 
-pub accepted_encodes : {bs : List ℕ} {w : Workspace} {n : Counts}
-    → (a : Accepted bs w n) → Encodes a.problem bs
+pub accepted_encodes : {bs : List ℕ} {types : List Datatype} {functions : List Callable} {unknowns : List ℕ} {goals : List Span} {least : List ℕ} {n : Counts}
+    → (a : Accepted bs types functions unknowns goals least n) → Encodes a.problem bs
 accepted_encodes {bs} a =
     let c = came bs a.problem a.is in
     let read = a.tabled.read in

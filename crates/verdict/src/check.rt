@@ -6,7 +6,7 @@ ghost use Rattle.verdict.specs.Verdict.{verdict, checked};
 use crate::examine::examine;
 use crate::workspace::{MOST_TASKS, Workspace};
 use syntax::faults::Fault;
-use terms::tasks::Stack;
+use terms::tasks::Task;
 
 // The check, with room for N tasks. The tables have room for all that the format allows.
 fn check_with<const N: usize>(bytes: &[u8]) -> Result<(), Fault>
@@ -15,9 +15,17 @@ fn check_with<const N: usize>(bytes: &[u8]) -> Result<(), Fault>
     ensures exact { result ≡ checked (verdict bytes.now) }
     ensures says { Says bytes.now result }
 {
-    let mut tasks: Stack<N> = Stack::new();
+    let mut tasks = [Task::BLANK; N];
     let mut work = Workspace::EMPTY;
-    examine(bytes, &mut work, &mut tasks)?;
+    examine(
+        bytes,
+        &mut work.tables.types,
+        &mut work.tables.functions,
+        &mut work.tables.unknowns,
+        &mut work.tables.goals,
+        &mut work.least,
+        &mut tasks,
+    )?;
     Ok(())
 }
 

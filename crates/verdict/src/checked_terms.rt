@@ -7,7 +7,7 @@ ghost use Rattle.tables.specs.Tabled.{part_in, Inside};
 use syntax::faults::Fault;
 use syntax::tables::{Signature, Span};
 use terms::check::Checker;
-use terms::tasks::Stack;
+use terms::tasks::Task;
 
 // A part of the bytes.
 fn part(bytes: &[u8], span: Span) -> &[u8]
@@ -18,15 +18,15 @@ fn part(bytes: &[u8], span: Span) -> &[u8]
 }
 
 // Checks all the terms. `tasks` is working memory.
-pub fn check_terms<const N: usize>(
+pub fn check_terms(
     bytes: &[u8],
     sig: Signature,
     goals: &[Span],
-    tasks: &mut Stack<N>,
+    tasks: &mut [Task],
 ) -> Result<(), Fault>
     requires functions { FitFunctions bytes.now sig.functions.now }
     requires goals { FitGoals bytes.now goals.now }
-    requires room { length bytes.now + 1 ≤ N }
+    requires room { length bytes.now + 1 ≤ length tasks.old }
     ensures { result ≡ fault_of (terms_by (declared_in sig.entry) bytes.now sig.entry.functions.now goals.now) }
 {
     let mut checker = Checker::new(sig);

@@ -1,5 +1,4 @@
 use Rattle.std.proofs.Common.{◌≡◌, ◌-◌, ◌<◌, [], ◌∷◌, ◌++◌, length, Ok, sym, refl, subst, arith}
-use Rattle.std.proofs.lemmas.List.{length-set}
 use Rattle.std.proofs.lemmas.Result.{err_from_is_err_and}
 use Rattle.syntax.specs.Problems.{concat}
 use Rattle.records.specs.Next.{next}
@@ -13,16 +12,20 @@ use Rattle.tables.proofs.sections.fill.Goals as goal
 pub loop-entry-init : goal.loop-entry-init
 loop-entry-init g c =
     let R = g.R.Record in
-    record { value = []; section = upto_none R.reading R.writing R.high R.low (length c.args.table.now) c.args.reader.now; held = record { long = refl; fits = omega arith; stand = tt } }
+    record { value = []; section = upto_none R.reading R.writing R.high R.low c.args.most c.args.reader.now; held = record { long = refl; fits = omega arith; stand = tt } }
 
-pub overflow_sub-table : goal.overflow_sub-table
-overflow_sub-table g c = c.loop-entry.invariant.held.fits
+pub overflow_sub-most : goal.overflow_sub-most
+overflow_sub-most g c =
+    let l = c.loop-entry.invariant in
+    let few = l.section.few in
+    omega (arith, few, l.held.long)
 
 pub returns-in_err-item : goal.returns-in_err-item
 returns-in_err-item g c =
     let l = c.loop-entry in
-    let room : length l.table - l.n ≡ length c.args.table.now - length l.invariant.value = omega (arith, l.auto.table, l.invariant.held.long) in
-    let f = upto_refused l.invariant.section (length l.table - l.n) room c.in_err-item.ensures.1 in
+    let most = c.args.most in
+    let room : most - l.n ≡ most - length l.invariant.value = omega (arith, l.invariant.held.long) in
+    let f = upto_refused l.invariant.section (most - l.n) room c.in_err-item.ensures.1 in
     let p = err_from_is_err_and c.from_residual.result c.from_residual.ensures.1 in
     rw (p.1, p.2) f
 
@@ -30,9 +33,10 @@ pub loop-entry-smaller : goal.loop-entry-smaller
 loop-entry-smaller g c =
     let R = g.R.Record in
     let l = c.loop-entry in
+    let most = c.args.most in
     let r = l.reader in
-    let h = subst (λ o. Hands (next R.reading R.high R.low (length l.table - l.n) (ahead_of r) r.at) R.meaning R.writing (R.IsAt r.at) r c.next.new.self (Ok o)) c.in-Some.is c.in_ok-item.ensures in
-    omega (arith, had_room R.reading R.high R.low (ahead_of r) r.at (length l.table - l.n) h.1, length-set l.table l.n c.entry.result)
+    let h = subst (λ o. Hands (next R.reading R.high R.low (most - l.n) (ahead_of r) r.at) R.meaning R.writing (R.IsAt r.at) r c.next.new.self (Ok o)) c.in-Some.is c.in_ok-item.ensures in
+    omega (arith, had_room R.reading R.high R.low (ahead_of r) r.at (most - l.n) h.1)
 
 pub loop-entry-preserved : goal.loop-entry-preserved
 loop-entry-preserved g c =
@@ -40,13 +44,13 @@ loop-entry-preserved g c =
     let l = c.loop-entry in
     let r = l.reader in
     let after = c.next.new.self in
-    let most = length c.args.table.now in
+    let most = c.args.most in
     let x = c.in-Some.item in
-    let room : length l.table - l.n ≡ most - length l.invariant.value = omega (arith, l.auto.table, l.invariant.held.long) in
-    let h = subst (λ o. Hands (next R.reading R.high R.low (length l.table - l.n) (ahead_of r) r.at) R.meaning R.writing (R.IsAt r.at) r after (Ok o)) c.in-Some.is c.in_ok-item.ensures in
-    let u = upto_more l.invariant.section (length l.table - l.n) room after (R.meaning x) h.0 h.1 h.2 in
+    let room : most - l.n ≡ most - length l.invariant.value = omega (arith, l.invariant.held.long) in
+    let h = subst (λ o. Hands (next R.reading R.high R.low (most - l.n) (ahead_of r) r.at) R.meaning R.writing (R.IsAt r.at) r after (Ok o)) c.in-Some.is c.in_ok-item.ensures in
+    let u = upto_more l.invariant.section (most - l.n) room after (R.meaning x) h.0 h.1 h.2 in
     let place = place_after c.args.reader.now r (concat R.writing l.invariant.value) l.invariant.section.same l.invariant.section.front in
-    let low : l.n < length l.table = omega (arith, had_room R.reading R.high R.low (ahead_of r) r.at (length l.table - l.n) h.1) in
+    let low : l.n < length l.table = omega (arith, l.auto.table, c.requires.room, had_room R.reading R.high R.low (ahead_of r) r.at (most - l.n) h.1) in
     record {
       value = l.invariant.value ++ R.meaning x ∷ [];
       section = u;
@@ -60,10 +64,10 @@ returns g c =
     let l = c.loop-entry in
     let r = l.reader in
     let after = c.next.new.self in
-    let most = length c.args.table.now in
-    let room : length l.table - l.n ≡ most - length l.invariant.value = omega (arith, l.auto.table, l.invariant.held.long) in
-    let h = subst (λ o. Hands (next R.reading R.high R.low (length l.table - l.n) (ahead_of r) r.at) R.meaning R.writing (R.IsAt r.at) r after (Ok o)) c.in_default.is c.in_ok-item.ensures in
-    let u = upto_all l.invariant.section (length l.table - l.n) room h.1 in
+    let most = c.args.most in
+    let room : most - l.n ≡ most - length l.invariant.value = omega (arith, l.invariant.held.long) in
+    let h = subst (λ o. Hands (next R.reading R.high R.low (most - l.n) (ahead_of r) r.at) R.meaning R.writing (R.IsAt r.at) r after (Ok o)) c.in_default.is c.in_ok-item.ensures in
+    let u = upto_all l.invariant.section (most - l.n) room h.1 in
     record {
       value = l.invariant.value;
       section = subst (λ s. Section R.reading R.writing R.high R.low most c.args.reader.now s l.invariant.value) (sym h.0) u;

@@ -6,7 +6,7 @@ use Rattle.verdict.proofs.Checks.{same_reading, body_passed, body_refused, bodie
 use Rattle.verdict.proofs.checked_terms.check_terms.Goals as goal
 
 pub returns-in_err-check_term : goal.returns-in_err-check_term
-returns-in_err-check_term g c =
+returns-in_err-check_term c =
     let sig = declared_in c.args.sig in
     let bs = c.args.bytes.now in
     let fs = c.args.sig.functions.now in
@@ -19,7 +19,7 @@ returns-in_err-check_term g c =
     (sym (c.loop-function.invariant.1 ∙ body_refused sig bs fs i no_callable c.loop-function-test.true e read))))
 
 pub loop-function-preserved : goal.loop-function-preserved
-loop-function-preserved g c =
+loop-function-preserved c =
     let sig = declared_in c.args.sig in
     let bs = c.args.bytes.now in
     let fs = c.args.sig.functions.now in
@@ -31,7 +31,7 @@ loop-function-preserved g c =
     )
 
 pub loop-goal-init : goal.loop-goal-init
-loop-goal-init g c =
+loop-goal-init c =
     let sig = declared_in c.args.sig in
     let bs = c.args.bytes.now in
     let fs = c.args.sig.functions.now in (
@@ -40,7 +40,7 @@ loop-goal-init g c =
     )
 
 pub returns-in_err-check_term-2 : goal.returns-in_err-check_term-2
-returns-in_err-check_term-2 g c =
+returns-in_err-check_term-2 c =
     let sig = declared_in c.args.sig in
     let bs = c.args.bytes.now in
     let gs = c.args.goals.now in
@@ -51,7 +51,7 @@ returns-in_err-check_term-2 g c =
     p.1 ∙ (ap Err p.2 ∙ sym (c.loop-goal.invariant.1 ∙ goal_refused sig bs gs i no_span c.loop-goal-test.true e read))
 
 pub loop-goal-preserved : goal.loop-goal-preserved
-loop-goal-preserved g c =
+loop-goal-preserved c =
     let sig = declared_in c.args.sig in
     let bs = c.args.bytes.now in
     let gs = c.args.goals.now in
@@ -62,6 +62,6 @@ loop-goal-preserved g c =
     )
 
 pub returns : goal.returns
-returns g c =
+returns c =
     sym (c.loop-goal.invariant.1
     ∙ goals_done (declared_in c.args.sig) c.args.bytes.now c.args.goals.now c.loop-goal.goal-index c.loop-goal-test.false)

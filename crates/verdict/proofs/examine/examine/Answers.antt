@@ -8,21 +8,22 @@ use Rattle.verdict.proofs.examine.examine.Goals as goal
 
 -- what the tables hold, where their fronts are passed on
 pub check_types-requires : goal.check_types-requires
-check_types-requires g c =
+check_types-requires c =
     let n = c.in_ok-counts.counts in
     let t = c.in_ok-counts.ensures.reads in
     let few = t.1.within.few_types in
     let count = t.1.types_count in
-    let deep : length c.args.work.now.least ≡ 32 = search rules in
+    let wide = c.requires.types in
+    let deep = c.requires.least in
     record {
       low =
           low t.0 _ n.start t.1.within
           t.1.declares;
-      long = omega (arith, length-take n.types c.read_records.new.tables.types);
+      long = omega (arith, length-take n.types c.read_records.new.types);
     }
 
 pub returns-in_err-check_types : goal.returns-in_err-check_types
-returns-in_err-check_types g c =
+returns-in_err-check_types c =
     let n = c.in_ok-counts.counts in
     let t = c.in_ok-counts.ensures.reads in
     let p = err_from_is_err_and c.from_residual-in_err-check_types.result c.from_residual-in_err-check_types.ensures.1 in
@@ -32,7 +33,7 @@ returns-in_err-check_types g c =
     t.1.declares))
 
 pub check_terms-requires : goal.check_terms-requires
-check_terms-requires g c =
+check_terms-requires c =
     let n = c.in_ok-counts.counts in
     let t = c.in_ok-counts.ensures.reads in
     let d = t.1.declares in
@@ -40,10 +41,14 @@ check_terms-requires g c =
     let short = t.1.within.short in
     let same = ap length t.1.written in
     let all : length c.args.bytes.now ≤ 16384 = omega arith in
-    (search rules, (fit_functions c.args.bytes.now t.0 _ _ t.1.within l d.of_functions, (l.goals_inside, c.requires all)))
+    record {
+      functions = fit_functions c.args.bytes.now t.0 _ _ t.1.within l d.of_functions;
+      goals = l.goals_inside;
+      room = c.requires.room all;
+    }
 
 pub returns-in_err-check_terms : goal.returns-in_err-check_terms
-returns-in_err-check_terms g c =
+returns-in_err-check_terms c =
     let n = c.in_ok-counts.counts in
     let t = c.in_ok-counts.ensures.reads in
     let d = t.1.declares in
@@ -54,13 +59,13 @@ returns-in_err-check_terms g c =
     ∙ terms_refused c.args.bytes.now t.0 _ _ l _ (declared_same t.0 _ _ _ n.start d) c.in_err-check_terms.field-0.0 c.in_err-check_terms.ensures)
 
 pub returns : goal.returns
-returns g c =
+returns c =
     let n = c.in_ok-counts.counts in
     let t = c.in_ok-counts.ensures.reads in
     let d = t.1.declares in
     let l = t.1.locates in
     let a = terms_accepted c.args.bytes.now t.0 _ _ l _ (declared_same t.0 _ _ _ n.start d) c.in_ok-check_terms.ensures in
-    let ts = take n.types c.read_records.new.tables.types in
+    let ts = take n.types c.read_records.new.types in
     let all : length ts ≡ n.types = omega (arith, length-map ts cases_in, ap length d.of_types, t.1.types_count) in
     record {
       raw = t.0;

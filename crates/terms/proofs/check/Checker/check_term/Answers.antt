@@ -4,7 +4,7 @@ use Rattle.reading.proofs.Verdicts.{says}
 use Rattle.terms.proofs.check.Checker.check_term.Goals as goal
 
 pub returns-clause-says : goal.returns-clause-says
-returns-clause-says g c =
+returns-clause-says c =
     let sig = c.args.self.now in
     let s = c.args.variables.now in
     let bytes = c.args.bytes.now in
