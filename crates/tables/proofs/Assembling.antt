@@ -10,7 +10,7 @@ use Rattle.syntax.specs.declared.tables.Span.{Span}
 use Rattle.syntax.specs.Tables.{profile_in}
 use Rattle.syntax.specs.Problems.{concat, encode_type, encode_unknown}
 use Rattle.records.specs.Raw.{Raw, RawFunction, write_function, write_goal, write}
-use Rattle.records.specs.Reading.{Read, and_then, many, type_of, function_of, byte_of, part_of, starts, end_of, records}
+use Rattle.records.specs.Reading.{and_then, many, type_of, function_of, byte_of, part_of, starts, end_of, records}
 use Rattle.records.specs.declared.reader.Reader.{Reader}
 use Rattle.tables.specs.declared.filling.Counts.{Counts}
 use Rattle.records.specs.Readers.{ahead_of}

@@ -60,13 +60,15 @@ impl Wanted {
     }
 }
 
-// A stack of tasks in a slice that is lent, which holds as many as the slice has places.
-// Kept as it is: a slice with a length beside it: the library's vector of fixed room (`arrayvec`) writes a blank over each task that
-// is taken, and a check takes one for most bytes of a term. How much slower that is was not measured.
+// A stack of tasks in a slice that is lent, with room for as many as the slice has places.
+// Kept as it is: a slice with a length beside it. The library's vector of fixed room (`arrayvec`) has its room in its type, where
+// each caller lends as much as its bytes ask for; and it writes a blank over each task that is taken, and a check takes one for most
+// bytes of a term. How much slower that is was not measured.
 #[derive(Drop)]
 pub struct Stack<'a> {
     tasks: &'a mut [Task],
     len: usize,
+    // The tasks on it are within the slice.
     ghost within: { len ≤ length tasks.now },
 }
 

@@ -1,4 +1,5 @@
 use Rattle.std.proofs.Common.{arith}
+use Rattle.verdict.specs.declared.workspace.Workspace.{Workspace}
 use Rattle.kept.proofs.Filling.{holds_fronts}
 use Rattle.kept.proofs.fill.examined.Goals as goal
 
@@ -15,4 +16,6 @@ copied-requires c =
 
 pub returns : goal.returns
 returns c =
-    holds_fronts c.args.bytes.now c.examine.new.work c.in-Ok.counts c.in_ok-tables.tables c.in-Ok.ensures c.in_ok-tables.ensures
+    let x = c.examine.new in
+    let w : Workspace = record { tables = record { types = x.types; functions = x.functions; unknowns = x.unknowns; goals = x.goals }; least = x.least } in
+    holds_fronts c.args.bytes.now w c.in-Ok.counts c.in_ok-tables.tables c.in-Ok.ensures c.in_ok-tables.ensures
