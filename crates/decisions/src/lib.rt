@@ -47,7 +47,8 @@ fn fix_steps(facts: &mut Facts, trail: &Trail, fixed: usize)
     ensures store { facts.new.store ≡ facts.old.store }
     ensures pool { facts.new.pool ≡ facts.old.pool }
 {
-    for step in trail.steps.iter().skip(fixed) {
+    let first = fixed.min(trail.steps.len());
+    for step in &trail.steps[first..] {
         if let Reason::Clause(c) = step.reason {
             facts.fix(c, step.literal);
         }
