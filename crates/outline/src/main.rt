@@ -1,10 +1,11 @@
 // Reads lines of a name and bytes in hexadecimal, takes each as a problem, and prints what the problem says when it is asked.
 #![tactic(auto)]
 
-use hextext::bytes_of;
+use hextext::bytes_of_small;
 use problem::problem::Problem;
 use problem::take::take;
 use problem::view::View;
+use std::alloc::AllocError;
 use std::io;
 use std::io::{BufRead, BufReader};
 use syntax::limits::{MOST_FUNCTIONS, MOST_TYPES};
@@ -49,16 +50,12 @@ fn tell_term(rt: &HostRuntime, p: &Problem, start: usize) -> io::Result<()> {
 
 // Kept as it is: types, constructors, functions and goals are gone through by their numbers, here and above, since the calls of a
 // problem take numbers.
-fn tell(rt: &HostRuntime, line: &str) -> anyhow::Result<()> {
+fn tell(rt: &HostRuntime, line: &str) -> io::Result<()> {
     let Some((name, text)) = line.split_once(' ') else {
         return Ok(());
     };
     // A capital letter is no digit here, and is passed over.
-    let small: Vec<u8> = text
-        .bytes()
-        .filter(|b| !b.is_ascii_uppercase())
-        .collect(rt.alloc())?;
-    let bytes = bytes_of(rt.alloc(), small.as_slice())?;
+    let bytes = bytes_of_small(rt.alloc(), text.as_bytes()).map_err(|_| AllocError)?;
     let p = take(rt.alloc(), bytes.as_slice())?;
     let size = p.bytes().len();
     let unknowns = p.unknowns();
@@ -79,7 +76,7 @@ fn tell(rt: &HostRuntime, line: &str) -> anyhow::Result<()> {
     Ok(())
 }
 
-fn main(rt: HostRuntime) -> anyhow::Result<()> {
+fn main(rt: HostRuntime) -> io::Result<()> {
     for line in BufReader::new(rt.alloc(), rt.stdin())?.lines(rt.alloc()) {
         tell(&rt, line?.as_str())?;
     }
