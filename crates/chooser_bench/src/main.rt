@@ -8,7 +8,6 @@ use chooser::{Answer, Chooser, Fault};
 use learning::Learning;
 use plain::Plain;
 use rows::{MOST_ENTRIES, MOST_VARIABLES};
-use std::alloc::{AllocError, Global};
 use std::time::Instant;
 use std::{env, fmt, fs};
 
@@ -150,8 +149,8 @@ fn ask<C: Chooser>(
 }
 
 // Makes each line's call. What stands behind the last line's end is no line.
-fn play<C: Chooser>(heap: Global, chooser: &mut C, script: &[u8]) -> Result<Score, AllocError> {
-    let mut values = vec![in heap; 0u8; MOST_VARIABLES]?;
+fn play<C: Chooser>(chooser: &mut C, script: &[u8]) -> Score {
+    let mut values = [0u8; MOST_VARIABLES];
     let mut score = Score::default();
     let mut line = Line {
         call: None,
@@ -170,7 +169,7 @@ fn play<C: Chooser>(heap: Global, chooser: &mut C, script: &[u8]) -> Result<Scor
             None => {}
         }
     }
-    Ok(score)
+    score
 }
 
 fn report<C: Chooser>(
@@ -180,7 +179,7 @@ fn report<C: Chooser>(
     script: &[u8],
 ) -> anyhow::Result<()> {
     let start = Instant::now(rt)?;
-    let score = play(rt.alloc(), chooser, script)?;
+    let score = play(chooser, script);
     let took = start.elapsed(rt)?.as_micros();
     eprintln!(rt; "{took} {path}")?;
     println!(rt; "{path} {score}")?;

@@ -25,6 +25,9 @@ enum Which {
 
 // Says the literal of each variable that is true.
 fn say_values(rt: &HostRuntime, variables: u16, values: &[u8]) -> io::Result<()> {
+    if variables == 0 {
+        return println!(rt; "v 0");
+    }
     print!(rt; "v")?;
     for (variable, value) in (0..variables).zip(values) {
         if variable > 0 && variable % LINE == 0 {
