@@ -7,7 +7,8 @@ ghost use Rattle.terms.specs.Tasks.{put, stack_of, Piled, NoneLeft, Stops, Advan
 ghost use Rattle.terms.specs.Stacks.{on, room};
 
 use crate::context::Context;
-use crate::tasks::{NoTerm, Opened, Stack, Task, Wanted};
+use crate::lent_stack::LentStack;
+use crate::tasks::{NoTerm, Opened, Task, Wanted};
 use std::marker::Model;
 use syntax::faults::{Fault, Reason};
 use syntax::limits::MOST_VARIABLES;
@@ -32,7 +33,7 @@ impl<'a> Model for Checker<'a> {
 // A byte comes where a task is next and others are left: the task that is next then, if any.
 fn advance(
     context: &mut Context,
-    stack: &mut Stack,
+    stack: &mut LentStack,
     task: Task,
     b: u8,
 ) -> Result<Option<Task>, NoTerm>
@@ -82,7 +83,7 @@ impl<'a> Checker<'a> {
     {
         let context = &mut self.context;
         context.lay(variables);
-        let mut stack = Stack::new(tasks);
+        let mut stack = LentStack::new(tasks);
         stack.restart(Task::One(Wanted::whole(wanted, variables.len() as u8)));
         let mut next = stack.pop();
         for (at, b) in bytes.iter().enumerate() {

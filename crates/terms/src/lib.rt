@@ -3,4 +3,5 @@
 
 pub mod check;
 mod context;
+pub mod lent_stack;
 pub mod tasks;

@@ -1,8 +1,9 @@
 // What is still to be read of a term.
-ghost use Rattle.std.specs.Prelude.{◌≡◌, ◌<◌, ◌≤◌, [], ◌∷◌, length, Some};
+ghost use Rattle.std.specs.Prelude.{◌≡◌, ◌<◌, [], ◌∷◌, length, Some};
 ghost use Rattle.terms.specs.Tasks.{whole, put, NoneLeft};
 
 use reading::parts::Part;
+use std::marker::Model;
 
 // A term that is wanted, from this part of it on; `cut` of the variables are in scope.
 #[derive(Clone, Copy)]
@@ -60,42 +61,50 @@ impl Wanted {
     }
 }
 
-// A stack of tasks in a slice that is lent, with room for as many as the slice has places.
-// Kept as it is: a slice with a length beside it. The library's vector of fixed room (`arrayvec`) has its room in its type, where
-// each caller lends as much as its bytes ask for; and it writes a blank over each task that is taken, and a check takes one for most
-// bytes of a term. How much slower that is was not measured.
+// A stack of at most N tasks, whose places are its own; the check has one in memory that its caller lends (`LentStack`).
+// Kept as it is: an array with a length beside it: the library's vector of fixed room (`arrayvec`) writes a blank over each task that
+// is taken. Nor does it lend its array to a `LentStack` and call that one: whose contract does not say that it keeps the reference,
+// so that nothing is known of the array afterwards.
 #[derive(Drop)]
-pub struct Stack<'a> {
-    tasks: &'a mut [Task],
+pub struct Stack<const N: usize> {
+    tasks: [Task; N],
     len: usize,
-    // The tasks on it are within the slice.
-    ghost within: { len ≤ length tasks.now },
 }
 
-impl<'a> Stack<'a> {
-    ghost use Rattle.terms.specs.Stacks.{on, room};
+// Clauses see the tasks, the topmost first.
+impl<const N: usize> Model for Stack<N> {
+    ghost use Rattle.std.specs.Prelude.{List, reverse, take, ◌≤◌};
+    ghost use Rattle.terms.specs.declared.tasks.Task.{Task};
 
-    pub fn new(tasks: &'a mut [Task]) -> Stack<'a>
-        ensures empty { on result ≡ [] }
-        ensures room { room result ≡ length tasks.old }
+    ghost Value = { List Task };
+
+    ghost view = { λ s. reverse (take s.len s.tasks) };
+
+    ghost invariant = { λ s. s.len ≤ N };
+}
+
+impl<const N: usize> Stack<N> {
+    pub fn new() -> Self
+        ensures { result ≡ [] }
     {
-        Stack { tasks, len: 0 }
+        Stack {
+            tasks: [Task::BLANK; N],
+            len: 0,
+        }
     }
 
     // Takes all tasks away, and puts this one.
     pub fn restart(&mut self, task: Task)
-        requires { 0 < room self.old }
-        ensures is { on self.new ≡ task ∷ [] }
-        ensures room { room self.new ≡ room self.old }
+        requires { 0 < N }
+        ensures { self.new ≡ task ∷ [] }
     {
         self.len = 0;
         self.push(task);
     }
 
     pub fn push(&mut self, task: Task)
-        requires { length (on self.old) < room self.old }
-        ensures is { on self.new ≡ task ∷ on self.old }
-        ensures room { room self.new ≡ room self.old }
+        requires { length self.old < N }
+        ensures { self.new ≡ task ∷ self.old }
     {
         self.tasks[self.len] = task;
         self.len += 1;
@@ -103,9 +112,8 @@ impl<'a> Stack<'a> {
 
     // Puts a task on top, if there is one.
     pub fn put(&mut self, task: Option<Task>)
-        requires { length (on self.old) < room self.old }
-        ensures is { on self.new ≡ put task (on self.old) }
-        ensures room { room self.new ≡ room self.old }
+        requires { length self.old < N }
+        ensures { self.new ≡ put task self.old }
     {
         if let Some(task) = task {
             self.push(task);
@@ -114,14 +122,60 @@ impl<'a> Stack<'a> {
 
     // Takes the topmost task; none if there is none.
     pub fn pop(&mut self) -> Option<Task>
-        ensures taken { on self.old ≡ put result (on self.new) }
-        ensures last { NoneLeft result (on self.new) }
-        ensures room { room self.new ≡ room self.old }
+        ensures taken { self.old ≡ put result self.new }
+        ensures last { NoneLeft result self.new }
     {
         if self.len == 0 {
             return None;
         }
         self.len -= 1;
         Some(self.tasks[self.len])
+    }
+}
+
+#[cfg(test)]
+mod tests {
+    use super::*;
+    use std::test::Fail;
+
+    const BOOLS: Task = Task::Two { ty: 0, cut: 3 };
+
+    const CASE: Task = Task::Case {
+        of: 1,
+        ty: 0,
+        cut: 2,
+    };
+
+    #[test]
+    fn last_put_is_taken_first(rt: HostRuntime) -> Result<(), Fail> {
+        let mut stack: Stack<2> = Stack::new();
+        assert!(rt; matches!(stack.pop(), None));
+        stack.push(BOOLS);
+        stack.put(None);
+        stack.put(Some(CASE));
+        assert!(rt;
+            matches!(
+                stack.pop(),
+                Some(Task::Case {
+                    of: 1,
+                    ty: 0,
+                    cut: 2
+                })
+            )
+        );
+        assert!(rt; matches!(stack.pop(), Some(Task::Two { ty: 0, cut: 3 })));
+        assert!(rt; matches!(stack.pop(), None));
+        Ok(())
+    }
+
+    #[test]
+    fn one_task_after_a_restart(rt: HostRuntime) -> Result<(), Fail> {
+        let mut stack: Stack<2> = Stack::new();
+        stack.push(CASE);
+        stack.push(CASE);
+        stack.restart(BOOLS);
+        assert!(rt; matches!(stack.pop(), Some(Task::Two { ty: 0, cut: 3 })));
+        assert!(rt; matches!(stack.pop(), None));
+        Ok(())
     }
 }
